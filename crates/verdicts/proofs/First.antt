@@ -1,0 +1,189 @@
+-- Laws of the first refusal, over any table of rows: what a verdict says of the rows, and what the rows say of the verdict.
+-- Assumes nothing.
+use mathlib.Core.Path.{_≡_, refl, sym, ap, _∙_, subst}
+use mathlib.Core.Bool.{Bool, true, false}
+use mathlib.Core.List.{List, [], _∷_, _++_}
+use mathlib.Core.Logic.{_↔_, ⊎-elim}
+use Prim.Native.Nat.{ℕ, zero, suc, _+_, _<_}
+use native.Mathlib.Nat.{eq-or-lt-of-le, le-of-suc-le-suc, lt-suc-self}
+use native.Mathlib.Numerals.{add-one}
+use native.Mathlib.Omega.{arith}
+use lib.Dec.{T, ltb, ltb→lt}
+use Rattle.verdicts.specs.declared.Verdict.{Verdict}
+use Rattle.verdicts.specs.Refusals.{Refusal, refusal, eachPlace, firstOf, verdict, success, verdictOf}
+
+-- ---- one row
+
+module _ {A : Type 0} (refused : ℕ → ℕ → A) (answer : A) where
+  pub hit : {b : Bool} (n p : ℕ) (rs : List Refusal) → b ≡ true → firstOf refused (refusal b n p ∷ rs) answer ≡ refused n p
+  unfolding firstOf
+  hit n p rs e = rw e
+
+  pub miss : {b : Bool} (n p : ℕ) (rs : List Refusal) → b ≡ false → firstOf refused (refusal b n p ∷ rs) answer ≡ firstOf refused rs answer
+  unfolding firstOf
+  miss n p rs e = rw e
+
+  -- one table after another
+  pub onward : (xs ys : List Refusal) → firstOf refused (xs ++ ys) answer ≡ firstOf refused xs (firstOf refused ys answer)
+  unfolding firstOf
+  onward [] ys = refl
+  onward (refusal true n p ∷ xs) ys = refl
+  onward (refusal false n p ∷ xs) ys = onward xs ys
+
+-- ---- no row applies
+
+abbrev pub NoneApply : List Refusal → Type 0
+NoneApply [] = Unit {0}
+NoneApply (refusal b n p ∷ rs) = (b ≡ false) × NoneApply rs
+
+pub none-append : (xs ys : List Refusal) → NoneApply xs → NoneApply ys → NoneApply (xs ++ ys)
+none-append [] ys x y = y
+none-append (refusal b n p ∷ xs) ys x y = (x .0, none-append xs ys (x .1) y)
+
+pub none-left : (xs ys : List Refusal) → NoneApply (xs ++ ys) → NoneApply xs
+none-left [] ys x = tt
+none-left (refusal b n p ∷ xs) ys x = (x .0, none-left xs ys (x .1))
+
+pub none-right : (xs ys : List Refusal) → NoneApply (xs ++ ys) → NoneApply ys
+none-right [] ys x = x
+none-right (refusal b n p ∷ xs) ys x = none-right xs ys (x .1)
+
+pub all-missed : {A : Type 0} (refused : ℕ → ℕ → A) (answer : A) (rs : List Refusal) → NoneApply rs → firstOf refused rs answer ≡ answer
+unfolding firstOf
+all-missed refused answer [] x = refl
+all-missed refused answer (refusal b n p ∷ rs) x = rw (x .0) (all-missed refused answer rs (x .1))
+
+-- ---- place by place
+
+module _ (rows : ℕ → List Refusal) where
+  pub none-yet : NoneApply (eachPlace rows 0)
+  unfolding eachPlace
+  none-yet = tt
+
+  -- one place more
+  pub none-more : (k : ℕ) → NoneApply (eachPlace rows k) → NoneApply (rows k) → NoneApply (eachPlace rows (k + 1))
+  unfolding eachPlace
+  none-more k x y = rw (add-one k) (none-append (eachPlace rows k) (rows k) x y)
+
+  -- the rows of a place that is passed do not apply
+  pub none-at : (n k : ℕ) → NoneApply (eachPlace rows n) → k < n → NoneApply (rows k)
+  unfolding eachPlace
+  none-at zero k x h = absurd (omega arith)
+  none-at (suc n) k x h = ⊎-elim
+      (λ e. subst (λ (j : ℕ). NoneApply (rows j)) (sym e) (none-right (eachPlace rows n) (rows n) x))
+      (λ l. none-at n k (none-left (eachPlace rows n) (rows n) x) l) (eq-or-lt-of-le (le-of-suc-le-suc h))
+
+  -- where each place's rows do not apply, none does
+  pub none-all : (n : ℕ) → ((k : ℕ) → k < n → NoneApply (rows k)) → NoneApply (eachPlace rows n)
+  unfolding eachPlace
+  none-all zero f = tt
+  none-all (suc n) f = none-append (eachPlace rows n) (rows n) (none-all n (λ k h. f k (omega arith))) (f n (lt-suc-self n))
+
+  -- the first place with a row that applies decides, whatever comes after it
+  pub decided : {A : Type 0} (refused : ℕ → ℕ → A) (k n : ℕ) (a : A) → k < n → NoneApply (eachPlace rows k)
+      → ((x : A) → firstOf refused (rows k) x ≡ a) → (x : A) → firstOf refused (eachPlace rows n) x ≡ a
+  unfolding eachPlace
+  decided refused k zero a h clear e x = absurd (omega arith)
+  decided refused k (suc n) a h clear e x = onward refused x (eachPlace rows n) (rows n) ∙ ⊎-elim
+      (λ q. all-missed refused _ (eachPlace rows n) (subst (λ (j : ℕ). NoneApply (eachPlace rows j)) q clear)
+      ∙ ap (λ (j : ℕ). firstOf refused (rows j) x) (sym q) ∙ e x)
+      (λ l. decided refused k n a l clear e (firstOf refused (rows n) x)) (eq-or-lt-of-le (le-of-suc-le-suc h))
+
+-- ---- every row has a number, and 0 is none
+
+abbrev pub both : Bool → Bool → Bool
+both true b = b
+both false b = false
+
+pub both-true : (a b : Bool) → a ≡ true → b ≡ true → both a b ≡ true
+both-true a b e f = rw e f
+
+pub both-l : (a b : Bool) → T (both a b) → T a
+both-l true b t = tt
+both-l false b t = absurd t
+
+pub both-r : (a b : Bool) → T (both a b) → T b
+both-r true b t = t
+both-r false b t = absurd t
+
+abbrev pub numbered : List Refusal → Bool
+numbered [] = true
+numbered (refusal b n p ∷ rs) = both (ltb 0 n) (numbered rs)
+
+pub numbered-append : (xs ys : List Refusal) → T (numbered xs) → T (numbered ys) → T (numbered (xs ++ ys))
+numbered-append [] ys s t = t
+numbered-append (refusal b n p ∷ xs) ys s t =
+    both-t (ltb 0 n) _ (both-l (ltb 0 n) _ s) (numbered-append xs ys (both-r (ltb 0 n) _ s) t)
+  where
+    both-t : (a b : Bool) → T a → T b → T (both a b)
+    both-t true b u v = v
+    both-t false b u v = absurd u
+
+pub numbered-places : (rows : ℕ → List Refusal) → ((k : ℕ) → T (numbered (rows k))) → (n : ℕ) → T (numbered (eachPlace rows n))
+unfolding eachPlace
+numbered-places rows f zero = tt
+numbered-places rows f (suc n) = numbered-append (eachPlace rows n) (rows n) (numbered-places rows f n) (f n)
+
+-- a verdict with the number 0 says that no row applies
+pub none-applied : (rs : List Refusal) → T (numbered rs) → verdictOf rs .number ≡ 0 → NoneApply rs
+unfolding firstOf
+none-applied [] t e = tt
+none-applied (refusal true n p ∷ rs) t e = let h : 0 < n = ltb→lt 0 n (both-l (ltb 0 n) (numbered rs) t) in absurd (omega arith)
+none-applied (refusal false n p ∷ rs) t e = (refl, none-applied rs (both-r (ltb 0 n) (numbered rs) t) e)
+
+pub passes : (rs : List Refusal) → T (numbered rs) → verdictOf rs .number ≡ 0 → verdictOf rs ≡ success
+passes rs t e = all-missed verdict success rs (none-applied rs t e)
+
+-- any other verdict is a row's, and decides every answer over these rows
+pub refused-so : {A : Type 0} (refused : ℕ → ℕ → A) (rs : List Refusal) → (verdictOf rs .number ≡ 0 → ⊥)
+    → (x : A) → firstOf refused rs x ≡ refused (verdictOf rs .number) (verdictOf rs .place)
+unfolding firstOf
+refused-so refused [] f x = absurd (f refl)
+refused-so refused (refusal true n p ∷ rs) f x = refl
+refused-so refused (refusal false n p ∷ rs) f x = refused-so refused rs f x
+
+-- ---- the first refusal theorem (demand 1)
+
+-- number n at place p applies, and no row before it does
+pub record First (rs : List Refusal) (n p : ℕ) : Type 0 where
+  pub before : List Refusal
+  pub after : List Refusal
+  pub stands : rs ≡ before ++ (refusal true n p ∷ after)
+  pub clear : NoneApply before
+
+pub given-of-first : {A : Type 0} (refused : ℕ → ℕ → A) (rs : List Refusal) (n p : ℕ) → First rs n p → (x : A) → firstOf refused rs x ≡ refused n p
+given-of-first refused rs n p f x =
+    ap (λ (l : List Refusal). firstOf refused l x) (f .stands)
+    ∙ onward refused x (f .before) (refusal true n p ∷ f .after)
+    ∙ all-missed refused _ (f .before) (f .clear)
+    ∙ hit refused x n p (f .after) refl
+
+pub first-of-refusal : (rs : List Refusal) → (verdictOf rs .number ≡ 0 → ⊥) → First rs (verdictOf rs .number) (verdictOf rs .place)
+unfolding firstOf
+first-of-refusal [] f = absurd (f refl)
+first-of-refusal (refusal true n p ∷ rs) f = record { before = []; after = rs; stands = refl; clear = tt }
+first-of-refusal (refusal false n p ∷ rs) f =
+    let r = first-of-refusal rs f in record {
+      before = refusal false n p ∷ r .before;
+      after = r .after;
+      stands = ap (λ (l : List Refusal). refusal false n p ∷ l) (r .stands);
+      clear = (refl, r .clear);
+    }
+
+-- success exactly when no refusal applies, and number n with its place exactly when refusal n applies there and none before it does
+pub record Exactly (rs : List Refusal) : Type 0 where
+  pub succeeds : verdictOf rs ≡ success ↔ NoneApply rs
+  pub refuses : (n p : ℕ) → (n ≡ 0 → ⊥) → verdictOf rs ≡ verdict n p ↔ First rs n p
+
+pub exactly : (rs : List Refusal) → T (numbered rs) → Exactly rs
+exactly rs t = record {
+  succeeds = ((λ e. none-applied rs t (ap (λ (v : Verdict). v .number) e)), (λ x. all-missed verdict success rs x));
+  refuses = λ n p f. (
+    (λ e.
+        let en = ap (λ (v : Verdict). v .number) e in
+        let ep = ap (λ (v : Verdict). v .place) e in
+        subst (λ (k : ℕ). First rs k p) en
+        (subst (λ (k : ℕ). First rs (verdictOf rs .number) k) ep (first-of-refusal rs (λ z. f (sym en ∙ z))))),
+    (λ g. given-of-first verdict rs n p g success),
+  );
+}

@@ -1,0 +1,24 @@
+// What a call answers: the number of its refusal and the place (01, "Refusal numbers"). Every number has its name here
+// and nowhere else.
+
+// Success is number 0, place 0. Places count from 1.
+#[repr(C)]
+pub struct Verdict {
+    pub number: u8,
+    pub place: u8,
+}
+
+pub const SUCCESS: u8 = 0;
+
+// Writing an object.
+pub const FIELD_TOO_WIDE: u8 = 7;
+
+// The shape of a list.
+pub const COUNT: u8 = 10;
+pub const FIRST_NOT_FIXED_5_V: u8 = 11;
+pub const KIND_NOT_ALLOWED: u8 = 12;
+pub const RESERVED_BIT: u8 = 13;
+pub const ORDER: u8 = 14;
+pub const VOLTAGE_BOUND: u8 = 15;
+pub const POWER_OVER_100_W: u8 = 16;
+pub const AVS_DIFFERS: u8 = 17;
