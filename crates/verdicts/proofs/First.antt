@@ -1,14 +1,15 @@
 -- Laws of the first refusal, over any table of rows: what a verdict says of the rows, and what the rows say of the verdict.
 -- Assumes nothing.
 use mathlib.Core.Path.{_≡_, refl, sym, ap, _∙_, subst}
-use mathlib.Core.Bool.{Bool, true, false}
+use mathlib.Core.Bool.{Bool, true, false, _&&_, and-eq-true-iff}
 use mathlib.Core.List.{List, [], _∷_, _++_}
 use mathlib.Core.Logic.{_↔_, ⊎-elim}
 use Prim.Native.Nat.{ℕ, zero, suc, _+_, _<_}
 use native.Mathlib.Nat.{eq-or-lt-of-le, le-of-suc-le-suc, lt-suc-self}
 use native.Mathlib.Numerals.{add-one}
 use native.Mathlib.Omega.{arith}
-use lib.Dec.{T, ltb, ltb→lt}
+use borrow.Author.Tests.{ltb-true}
+use lib.Dec.{ltb}
 use Rattle.verdicts.specs.declared.Verdict.{Verdict}
 use Rattle.verdicts.specs.Refusals.{Refusal, refusal, eachPlace, firstOf, verdict, success, verdictOf}
 
@@ -91,47 +92,29 @@ module _ (rows : ℕ → List Refusal) where
 
 -- ---- every row has a number, and 0 is none
 
-abbrev pub both : Bool → Bool → Bool
-both true b = b
-both false b = false
-
-pub both-true : (a b : Bool) → a ≡ true → b ≡ true → both a b ≡ true
-both-true a b e f = rw e f
-
-pub both-l : (a b : Bool) → T (both a b) → T a
-both-l true b t = tt
-both-l false b t = absurd t
-
-pub both-r : (a b : Bool) → T (both a b) → T b
-both-r true b t = t
-both-r false b t = absurd t
-
 abbrev pub numbered : List Refusal → Bool
 numbered [] = true
-numbered (refusal b n p ∷ rs) = both (ltb 0 n) (numbered rs)
+numbered (refusal b n p ∷ rs) = ltb 0 n && numbered rs
 
-pub numbered-append : (xs ys : List Refusal) → T (numbered xs) → T (numbered ys) → T (numbered (xs ++ ys))
+pub numbered-append : (xs ys : List Refusal) → numbered xs ≡ true → numbered ys ≡ true → numbered (xs ++ ys) ≡ true
 numbered-append [] ys s t = t
 numbered-append (refusal b n p ∷ xs) ys s t =
-    both-t (ltb 0 n) _ (both-l (ltb 0 n) _ s) (numbered-append xs ys (both-r (ltb 0 n) _ s) t)
-  where
-    both-t : (a b : Bool) → T a → T b → T (both a b)
-    both-t true b u v = v
-    both-t false b u v = absurd u
+    let h = and-eq-true-iff (ltb 0 n) (numbered xs) .0 s in
+    and-eq-true-iff (ltb 0 n) (numbered (xs ++ ys)) .1 (h .0, numbered-append xs ys (h .1) t)
 
-pub numbered-places : (rows : ℕ → List Refusal) → ((k : ℕ) → T (numbered (rows k))) → (n : ℕ) → T (numbered (eachPlace rows n))
+pub numbered-places : (rows : ℕ → List Refusal) → ((k : ℕ) → numbered (rows k) ≡ true) → (n : ℕ) → numbered (eachPlace rows n) ≡ true
 unfolding eachPlace
-numbered-places rows f zero = tt
+numbered-places rows f zero = refl
 numbered-places rows f (suc n) = numbered-append (eachPlace rows n) (rows n) (numbered-places rows f n) (f n)
 
 -- a verdict with the number 0 says that no row applies
-pub none-applied : (rs : List Refusal) → T (numbered rs) → verdictOf rs .number ≡ 0 → NoneApply rs
+pub none-applied : (rs : List Refusal) → numbered rs ≡ true → verdictOf rs .number ≡ 0 → NoneApply rs
 unfolding firstOf
 none-applied [] t e = tt
-none-applied (refusal true n p ∷ rs) t e = let h : 0 < n = ltb→lt 0 n (both-l (ltb 0 n) (numbered rs) t) in absurd (omega arith)
-none-applied (refusal false n p ∷ rs) t e = (refl, none-applied rs (both-r (ltb 0 n) (numbered rs) t) e)
+none-applied (refusal true n p ∷ rs) t e = let h : 0 < n = ltb-true 0 n (and-eq-true-iff (ltb 0 n) (numbered rs) .0 t .0) in absurd (omega arith)
+none-applied (refusal false n p ∷ rs) t e = (refl, none-applied rs (and-eq-true-iff (ltb 0 n) (numbered rs) .0 t .1) e)
 
-pub passes : (rs : List Refusal) → T (numbered rs) → verdictOf rs .number ≡ 0 → verdictOf rs ≡ success
+pub passes : (rs : List Refusal) → numbered rs ≡ true → verdictOf rs .number ≡ 0 → verdictOf rs ≡ success
 passes rs t e = all-missed verdict success rs (none-applied rs t e)
 
 -- any other verdict is a row's, and decides every answer over these rows
@@ -175,7 +158,7 @@ pub record Exactly (rs : List Refusal) : Type 0 where
   pub succeeds : verdictOf rs ≡ success ↔ NoneApply rs
   pub refuses : (n p : ℕ) → (n ≡ 0 → ⊥) → verdictOf rs ≡ verdict n p ↔ First rs n p
 
-pub exactly : (rs : List Refusal) → T (numbered rs) → Exactly rs
+pub exactly : (rs : List Refusal) → numbered rs ≡ true → Exactly rs
 exactly rs t = record {
   succeeds = ((λ e. none-applied rs t (ap (λ (v : Verdict). v .number) e)), (λ x. all-missed verdict success rs x));
   refuses = λ n p f. (

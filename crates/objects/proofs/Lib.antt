@@ -1,0 +1,5 @@
+pub mod Taking
+pub mod Putting
+pub mod Rows
+pub mod Cases
+pub mod RoundTrip

@@ -1,0 +1,5 @@
+pub mod Bits
+pub mod Layout
+pub mod Decode
+pub mod Encode
+pub mod Promises

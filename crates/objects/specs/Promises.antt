@@ -1,0 +1,19 @@
+-- What each public call of this crate promises of its answer. The contracts cite these names, and so do the theorems over them.
+-- Assumes nothing.
+use mathlib.Core.Path.{_≡_}
+use mathlib.Core.Bool.{Bool}
+use Prim.Native.Nat.{ℕ}
+use Rattle.objects.specs.declared.Object.{Object}
+use Rattle.objects.specs.declared.Decoded.{Decoded}
+use Rattle.objects.specs.declared.Encoded.{Encoded}
+use Rattle.objects.specs.Decode.{decodeOf, reservedSet}
+use Rattle.objects.specs.Encode.{encodeOf}
+
+abbrev pub Decodes : ℕ → Decoded → Type 0
+Decodes w r = r ≡ decodeOf w
+
+abbrev pub TellsReserved : Object → Bool → ℕ → Bool → Type 0
+TellsReserved o first w r = r ≡ reservedSet o first w
+
+abbrev pub Encodes : Object → Encoded → Type 0
+Encodes o r = r ≡ encodeOf o

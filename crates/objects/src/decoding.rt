@@ -1,0 +1,110 @@
+// From a word to an object. The fields are taken by shifts and masks at the bit places that 01 gives.
+ghost use Rattle.objects.specs.Promises.{Decodes, TellsReserved};
+ghost use Rattle.objects.specs.Decode.{fixedOf, batteryOf, variableOf, ppsOf, avsOf};
+ghost use mathlib.Core.Path.{_≡_};
+use crate::Decoded;
+use crate::Object;
+use steps::Ma10;
+use steps::Ma50;
+use steps::Mv100;
+use steps::Mv50;
+use steps::Mw250;
+
+fn fixed(w: u32) -> Object
+    ensures { λ r. ⌜ r ≡ fixedOf w ⌝ }
+{
+    Object::Fixed {
+        flags: ((w >> 23) & 0x7F) as u8,
+        peak: ((w >> 20) & 0x3) as u8,
+        volts: Mv50(((w >> 10) & 0x3FF) as u16),
+        current: Ma10((w & 0x3FF) as u16),
+    }
+}
+
+fn battery(w: u32) -> Object
+    ensures { λ r. ⌜ r ≡ batteryOf w ⌝ }
+{
+    Object::Battery {
+        max: Mv50(((w >> 20) & 0x3FF) as u16),
+        min: Mv50(((w >> 10) & 0x3FF) as u16),
+        power: Mw250((w & 0x3FF) as u16),
+    }
+}
+
+fn variable(w: u32) -> Object
+    ensures { λ r. ⌜ r ≡ variableOf w ⌝ }
+{
+    Object::Variable {
+        max: Mv50(((w >> 20) & 0x3FF) as u16),
+        min: Mv50(((w >> 10) & 0x3FF) as u16),
+        current: Ma10((w & 0x3FF) as u16),
+    }
+}
+
+fn pps(w: u32) -> Object
+    ensures { λ r. ⌜ r ≡ ppsOf w ⌝ }
+{
+    Object::Pps {
+        limited: ((w >> 27) & 0x1) as u8,
+        max: Mv100(((w >> 17) & 0xFF) as u16),
+        min: Mv100(((w >> 8) & 0xFF) as u16),
+        current: Ma50((w & 0x7F) as u16),
+    }
+}
+
+fn avs(w: u32) -> Object
+    ensures { λ r. ⌜ r ≡ avsOf w ⌝ }
+{
+    Object::Avs {
+        peak: ((w >> 26) & 0x3) as u8,
+        low: Ma10(((w >> 10) & 0x3FF) as u16),
+        high: Ma10((w & 0x3FF) as u16),
+    }
+}
+
+// What a word says. It does not look at reserved bits: `reserved_bit_set` does.
+pub fn decode(w: u32) -> Decoded
+    ensures { λ r. ⌜ Decodes w r ⌝ }
+{
+    let kind = (w >> 30) & 0x3;
+    match kind {
+        0 => Decoded::Known(fixed(w)),
+        1 => Decoded::Known(battery(w)),
+        2 => Decoded::Known(variable(w)),
+        _ => {
+            let augmented = (w >> 28) & 0x3;
+            match augmented {
+                0 => Decoded::Known(pps(w)),
+                2 => Decoded::Known(avs(w)),
+                _ => Decoded::NotAllowed,
+            }
+        }
+    }
+}
+
+// Whether a word has a bit set that is reserved for an object of this kind. The first word of a list may carry flags.
+pub fn reserved_bit_set(o: Object, first: bool, w: u32) -> bool
+    ensures { λ r. ⌜ TellsReserved o first w r ⌝ }
+{
+    match o {
+        Object::Fixed { .. } => {
+            if first {
+                (w >> 22) & 0x1 != 0
+            } else {
+                (w >> 22) & 0xFF != 0
+            }
+        }
+        Object::Battery { .. } => false,
+        Object::Variable { .. } => false,
+        Object::Pps { .. } => {
+            if (w >> 25) & 0x3 != 0 {
+                return true;
+            }
+            if (w >> 16) & 0x1 != 0 {
+                return true;
+            }
+            (w >> 7) & 0x1 != 0
+        }
+        Object::Avs { .. } => (w >> 20) & 0x3F != 0,
+    }
+}
