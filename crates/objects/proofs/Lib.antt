@@ -2,4 +2,5 @@ pub mod Taking
 pub mod Putting
 pub mod Rows
 pub mod Cases
+pub mod Others
 pub mod RoundTrip

@@ -1,5 +1,6 @@
 pub mod Bits
 pub mod Layout
 pub mod Decode
+pub mod Asking
 pub mod Encode
 pub mod Promises

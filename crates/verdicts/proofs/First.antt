@@ -31,6 +31,14 @@ module _ {A : Type 0} (refused : ℕ → ℕ → A) (answer : A) where
   onward (refusal true n p ∷ xs) ys = refl
   onward (refusal false n p ∷ xs) ys = onward xs ys
 
+-- a part of the answer is a first refusal too
+pub onto : {A B : Type 0} (part : A → B) (refused : ℕ → ℕ → A) (rs : List Refusal) (answer : A)
+    → part (firstOf refused rs answer) ≡ firstOf (λ n p. part (refused n p)) rs (part answer)
+unfolding firstOf
+onto part refused [] answer = refl
+onto part refused (refusal true n p ∷ rs) answer = refl
+onto part refused (refusal false n p ∷ rs) answer = onto part refused rs answer
+
 -- ---- no row applies
 
 abbrev pub NoneApply : List Refusal → Type 0

@@ -1,0 +1,96 @@
+-- `lists::shape_check::judge` meets its contract: each return cites the law of its case.
+-- Assumes nothing.
+use mathlib.Core.Path.{_≡_, refl, ap, sym, _∙_}
+use mathlib.Core.Bool.{Bool, true, false}
+use Prim.Native.Nat.{ℕ}
+use Rattle.objects.specs.declared.Object.{Object}
+use Rattle.objects.specs.declared.Decoded.the-variants.{Known, NotAllowed}
+use Rattle.objects.specs.Decode.{decodeOf, reservedSet}
+use Rattle.lists.specs.ObjectRules.{outOfBounds, over100W}
+use Rattle.lists.specs.declared.shape_check.Judged.the-variants.{Fine, Refused}
+use Rattle.lists.proofs.Judging.{not-known, reserved, bound, power, order, fine, in-order, out-of-order, first-in-order}
+use borrow.Author.Needs.{needs}
+use Rattle.lists.proofs.shape_check.judge.Statement.{statement}
+use Rattle.lists.proofs.shape_check.judge.Tie as tie
+
+-- what each test passed says of the object bound
+known : (c : tie.After-reserved-bit-set) → decodeOf (c .before .before .before .before .before .args .w) ≡ Known (c .before .before .d .given .0 .0)
+known c = sym (c .before .before .before .before .decode .ensures) ∙ c .before .before .d .given .1
+
+clear : (c : tie.Else1) → reservedSet (c .before .before .before .d .given .0 .0) (c .before .before .before .before .before .before .args .first) (c .before .before .before .before .before .before .args .w) ≡ false
+clear c = sym (c .before .reserved-bit-set .ensures) ∙ c .if1 .left
+
+bounded : (c : tie.Else2) → outOfBounds (c .before .before .before .before .before .d .given .0 .0) ≡ false
+bounded c = sym (c .before .out-of-bounds .ensures) ∙ c .if2 .left
+
+limited : (c : tie.Else3) → over100W (c .before .before .before .before .before .before .before .d .given .0 .0) ≡ false
+limited c = sym (c .before .over-100-w .ensures) ∙ c .if3 .left
+
+decode-requires : tie.Need-decode-requires
+decode-requires c κs = search needs
+
+enum-known-d : tie.Need-enum-known-d
+enum-known-d c = search needs
+
+enum-told : tie.Need-enum-told
+enum-told c = search needs
+
+returns : tie.Need-returns
+returns c = sym (not-known _ _ _ _ (sym (c .before .before .decode .ensures) ∙ c .enum-told .given .1))
+
+reserved-bit-set-requires : tie.Need-reserved-bit-set-requires
+reserved-bit-set-requires c κs = search needs
+
+returns-2 : tie.Need-returns-2
+returns-2 c = sym (reserved _ _ _ _ _ (known (c .before)) (sym (c .before .reserved-bit-set .ensures) ∙ c .if1 .taken))
+
+out-of-bounds-requires : tie.Need-out-of-bounds-requires
+out-of-bounds-requires c κs = search needs
+
+returns-3 : tie.Need-returns-3
+returns-3 c = sym (bound _ _ _ _ _ (known (c .before .before .before)) (clear (c .before .before)) (sym (c .before .out-of-bounds .ensures) ∙ c .if2 .taken))
+
+over-100-w-requires : tie.Need-over-100-w-requires
+over-100-w-requires c κs = search needs
+
+returns-4 : tie.Need-returns-4
+returns-4 c = 
+    sym (power _ _ _ _ _ (known (c .before .before .before .before .before)) (clear (c .before .before .before .before)) (bounded (c .before .before)) (sym (c .before .over-100-w .ensures) ∙ c .if3 .taken))
+
+returns-5 : tie.Need-returns-5
+returns-5 c = 
+    let s = c .before in
+    sym (fine _ _ _ _ _ (known (s .before .before .before .before .before)) (clear (s .before .before .before .before)) (bounded (s .before .before)) (limited s) (first-in-order (s .before .before .before .before .before .before .before .before .before .before .args .first) (s .before .before .before .before .before .before .before .before .before .before .args .before) (s .before .before .before .before .before .before .before .d .given .0 .0) (c .if4 .taken)))
+
+may-follow-requires : tie.Need-may-follow-requires
+may-follow-requires c κs = search needs
+
+returns-6 : tie.Need-returns-6
+returns-6 c = 
+    let s = c .before .before .before in
+    sym (fine _ _ _ _ _ (known (s .before .before .before .before .before)) (clear (s .before .before .before .before)) (bounded (s .before .before)) (limited s) (in-order (s .before .before .before .before .before .before .before .before .before .before .args .first) (s .before .before .before .before .before .before .before .before .before .before .args .before) (s .before .before .before .before .before .before .before .d .given .0 .0) (sym (c .before .may-follow .ensures) ∙ c .if5 .taken)))
+
+returns-7 : tie.Need-returns-7
+returns-7 c = 
+    let s = c .before .before .before in
+    sym (order _ _ _ _ _ (known (s .before .before .before .before .before)) (clear (s .before .before .before .before)) (bounded (s .before .before)) (limited s)
+    (out-of-order (s .before .before .before .before .before .before .before .before .before .before .args .first) (s .before .before .before .before .before .before .before .before .before .before .args .before) (s .before .before .before .before .before .before .before .d .given .0 .0) (c .before .before .if4 .left) (sym (c .before .may-follow .ensures) ∙ c .if5 .left)))
+
+pub judge-spec : {M : Type 1} → statement M
+judge-spec =
+    tie.close
+    (tie.spec
+    decode-requires
+    enum-known-d
+    enum-told
+    returns
+    reserved-bit-set-requires
+    returns-2
+    out-of-bounds-requires
+    returns-3
+    over-100-w-requires
+    returns-4
+    returns-5
+    may-follow-requires
+    returns-6
+    returns-7)

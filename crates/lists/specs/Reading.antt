@@ -1,0 +1,44 @@
+-- Reading a list (01, "What the library covers": "Reading a list refuses as its shape check does").
+-- Assumes nothing.
+use mathlib.Core.List.{List}
+use Prim.Native.Nat.{ℕ}
+use lib.ListN.{getD, replicate}
+use Rattle.verdicts.specs.Refusals.{firstOf, verdict, success}
+use Rattle.objects.specs.declared.Object.{Object}
+use Rattle.objects.specs.declared.Object.the-variants.{Fixed}
+use Rattle.objects.specs.declared.Decoded.{Decoded}
+use Rattle.objects.specs.declared.Decoded.the-variants.{Known, NotAllowed}
+use Rattle.objects.specs.Decode.{decodeOf}
+use Rattle.lists.specs.declared.Words.{Words}
+use Rattle.lists.specs.declared.Place.{Place}
+use Rattle.lists.specs.declared.Objects.{Objects}
+use Rattle.lists.specs.declared.Reading.{Reading}
+use Rattle.lists.specs.Shape.{shapeRefusals}
+use Rattle.lists.specs.Seven.{sevenTo}
+
+-- "places past the count are returned as zero (an object as fixed, all fields zero)"
+abbrev pub zeroObject : Object
+zeroObject = Fixed 0 0 (record { 0 = 0 }) (record { 0 = 0 })
+
+abbrev pub emptyPlace : Place
+emptyPlace = record { object = zeroObject }
+
+abbrev pub noObjects : Objects
+noObjects = record { places = replicate 7 emptyPlace; count = 0 }
+
+-- the object of a word; a list whose shape passes has one in every word
+abbrev pub objectOf : Decoded → Object
+objectOf (Known o) = o
+objectOf NotAllowed = zeroObject
+
+abbrev pub placeOf : List ℕ → ℕ → Place
+placeOf ws k = record { object = objectOf (decodeOf (getD ws k 0)) }
+
+abbrev pub objectsOf : Words → Objects
+objectsOf l = record { places = sevenTo (placeOf (l .words)) emptyPlace (l .count); count = l .count }
+
+abbrev pub readRefused : ℕ → ℕ → Reading
+readRefused n p = record { verdict = verdict n p; list = noObjects }
+
+unfoldable pub readOf : Words → Reading
+readOf l = firstOf readRefused (shapeRefusals l) (record { verdict = success; list = objectsOf l })

@@ -1,0 +1,76 @@
+-- The shape of a list (01, "Shape of a list"; numbers and order from "Refusal numbers").
+-- Assumes nothing.
+use mathlib.Core.Bool.{Bool, true, false, not, _&&_, _||_}
+use mathlib.Core.List.{List, [], _∷_, _++_}
+use Prim.Native.Nat.{ℕ, zero, suc, _+_, _-_}
+use lib.ListN.{getD}
+use lib.Dec.{ltb, eqb}
+use Rattle.verdicts.specs.declared.Verdict.{Verdict}
+use Rattle.verdicts.specs.Refusals.{Refusal, refusal, eachPlace, verdictOf}
+use Rattle.steps.specs.Units.{mv50}
+use Rattle.steps.specs.declared.Ma10.{Ma10}
+use Rattle.objects.specs.declared.Object.{Object}
+use Rattle.objects.specs.declared.Decoded.{Decoded}
+use Rattle.objects.specs.declared.Decoded.the-variants.{Known, NotAllowed}
+use Rattle.objects.specs.Asking.{ofObject, ofFixed, ofAvs}
+use Rattle.objects.specs.Decode.{decodeOf, decodedNumber, reservedSet}
+use Rattle.lists.specs.declared.Words.{Words}
+use Rattle.lists.specs.ObjectRules.{outOfBounds, over100W, mayFollow}
+
+-- 10: "count not 1..7"
+abbrev pub badCount : ℕ → Bool
+badCount n = ltb n 1 || ltb 7 n
+
+-- 11: "first object not fixed 5 V"
+unfoldable pub isFixed5V : ℕ → Bool
+isFixed5V w = ofObject (ofFixed (λ v a. eqb (mv50 v) 5000)) (decodeOf w)
+
+-- 14 compares a word with the one before it, so it says nothing of the first
+abbrev pub outOfOrder : Bool → Decoded → Decoded → Bool
+outOfOrder true before d = false
+outOfOrder false (Known o) d = ofObject (λ (x : Object). not (mayFollow o x)) d
+outOfOrder false NotAllowed d = false
+
+-- one word, with the one before it: "word by word 12, 13, 15, 16, 14"
+abbrev pub wordRefusals : Bool → ℕ → Decoded → ℕ → List Refusal
+wordRefusals first place before w =
+    refusal (eqb (decodedNumber (decodeOf w)) 12) 12 place
+    ∷ refusal (ofObject (λ (o : Object). reservedSet o first w) (decodeOf w)) 13 place
+    ∷ refusal (ofObject outOfBounds (decodeOf w)) 15 place
+    ∷ refusal (ofObject over100W (decodeOf w)) 16 place
+    ∷ refusal (outOfOrder first before (decodeOf w)) 14 place
+    ∷ []
+
+-- the word at place k + 1 of a list
+abbrev pub wordRows : List ℕ → ℕ → List Refusal
+wordRows ws k = wordRefusals (eqb k 0) (k + 1) (decodeOf (getD ws (k - 1) 0)) (getD ws k 0)
+
+-- a fixed object of so many millivolts, with the same current
+abbrev pub fixedWith : ℕ → Ma10 → Object → Bool
+fixedWith mv current = ofFixed (λ v a. eqb (mv50 v) mv && eqb (a .0) (current .0))
+
+-- there is such an object among the first n words
+unfoldable pub hasFixed : List ℕ → ℕ → ℕ → Ma10 → Bool
+hasFixed ws zero mv current = false
+hasFixed ws (suc k) mv current = hasFixed ws k mv current || ofObject (fixedWith mv current) (decodeOf (getD ws k 0))
+
+-- "AVS needs a 15 V fixed object with the same current as 19..10, and, if 9..0 isn't zero, a 20 V fixed object with the same current as 9..0."
+abbrev pub avsMatches : List ℕ → ℕ → Ma10 → Ma10 → Bool
+avsMatches ws n low high = hasFixed ws n 15000 low && (eqb (high .0) 0 || hasFixed ws n 20000 high)
+
+unfoldable pub avsDiffers : List ℕ → ℕ → Object → Bool
+avsDiffers ws n = ofAvs (λ low high. not (avsMatches ws n low high))
+
+-- 17: "AVS differs from its fixed objects", at the AVS word
+abbrev pub avsRows : List ℕ → ℕ → ℕ → List Refusal
+avsRows ws n k = refusal (ofObject (avsDiffers ws n) (decodeOf (getD ws k 0))) 17 (k + 1) ∷ []
+
+-- "10, .. 11, then word by word 12, 13, 15, 16, 14, then 17"
+abbrev pub shapeRefusals : Words → List Refusal
+shapeRefusals l =
+    refusal (badCount (l .count)) 10 0
+    ∷ refusal (not (isFixed5V (getD (l .words) 0 0))) 11 1
+    ∷ (eachPlace (wordRows (l .words)) (l .count) ++ eachPlace (avsRows (l .words) (l .count)) (l .count))
+
+unfoldable pub shapeOf : Words → Verdict
+shapeOf l = verdictOf (shapeRefusals l)

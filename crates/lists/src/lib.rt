@@ -1,0 +1,54 @@
+// Lists in hand: seven places and a count (01, "What the library covers"). Their shape is checked here, and they are
+// read and written.
+mod object_rules;
+mod read_list;
+mod shape_check;
+mod write_list;
+use objects::Object;
+pub use read_list::read;
+pub use shape_check::shape;
+use steps::Ma10;
+use steps::Mv50;
+use verdicts::Verdict;
+pub use write_list::write;
+
+// Seven words and how many of them count. What lies past the count is not read.
+#[repr(C)]
+pub struct Words {
+    pub words: [u32; 7],
+    pub count: u8,
+}
+
+// One place of a decoded list.
+pub struct Place {
+    pub object: Object,
+}
+
+// Seven objects and how many of them count.
+pub struct Objects {
+    pub places: [Place; 7],
+    pub count: u8,
+}
+
+// What reading gives: on a refusal the list is empty and all zero.
+pub struct Reading {
+    pub verdict: Verdict,
+    pub list: Objects,
+}
+
+// What writing gives: on a refusal the list is empty and all zero.
+#[repr(C)]
+pub struct Writing {
+    pub verdict: Verdict,
+    pub list: Words,
+}
+
+// A place past the count: a fixed object with all fields zero.
+const EMPTY_PLACE: Place = Place {
+    object: Object::Fixed {
+        flags: 0,
+        peak: 0,
+        volts: Mv50(0),
+        current: Ma10(0),
+    },
+};

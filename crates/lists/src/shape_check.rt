@@ -1,0 +1,222 @@
+// The shape check (01, "Shape of a list").
+ghost use mathlib.Core.Path.{_≡_};
+ghost use Prim.Native.Nat.{_≤_};
+ghost use Rattle.verdicts.specs.Refusals.{eachPlace, verdictOf};
+ghost use Rattle.steps.specs.Units.{mv50};
+ghost use Rattle.objects.specs.Decode.{decodeOf};
+ghost use Rattle.objects.specs.Asking.{ofObject};
+ghost use Rattle.lists.specs.Shape.{isFixed5V, wordRows, fixedWith, hasFixed, avsDiffers, avsRows};
+ghost use Rattle.lists.specs.Judging.{judgedOf};
+ghost use Rattle.lists.specs.Promises.{Shapes};
+use crate::EMPTY_PLACE;
+use crate::Words;
+use crate::object_rules::may_follow;
+use crate::object_rules::out_of_bounds;
+use crate::object_rules::over_100_w;
+use objects::Decoded;
+use objects::Object;
+use steps::Ma10;
+use steps::Mv50;
+use verdicts::Verdict;
+
+// A word that was judged: its object, or its first refusal.
+pub enum Judged {
+    Fine(Object),
+    Refused(Verdict),
+}
+
+fn is_fixed_5_v(w: u32) -> bool
+    ensures { λ r. ⌜ r ≡ isFixed5V w ⌝ }
+{
+    let d = objects::decode(w);
+    let Decoded::Known(o) = d else {
+        return false;
+    };
+    let Object::Fixed { volts, .. } = o else {
+        return false;
+    };
+    volts.0 == 100
+}
+
+// One word, with the object before it.
+fn judge(first: bool, place: u8, before: Object, w: u32) -> Judged
+    ensures { λ r. ⌜ r ≡ judgedOf first place before w ⌝ }
+{
+    let d = objects::decode(w);
+    let Decoded::Known(object) = d else {
+        return Judged::Refused(Verdict {
+            number: verdicts::KIND_NOT_ALLOWED,
+            place,
+        });
+    };
+    if objects::reserved_bit_set(object, first, w) {
+        return Judged::Refused(Verdict {
+            number: verdicts::RESERVED_BIT,
+            place,
+        });
+    }
+    if out_of_bounds(object) {
+        return Judged::Refused(Verdict {
+            number: verdicts::VOLTAGE_BOUND,
+            place,
+        });
+    }
+    if over_100_w(object) {
+        return Judged::Refused(Verdict {
+            number: verdicts::POWER_OVER_100_W,
+            place,
+        });
+    }
+    if first {
+        return Judged::Fine(object);
+    }
+    if may_follow(before, object) {
+        return Judged::Fine(object);
+    }
+    Judged::Refused(Verdict {
+        number: verdicts::ORDER,
+        place,
+    })
+}
+
+// Word by word, until one is refused.
+fn judge_words(list: Words) -> Verdict
+    requires { ⌜ list .count ≤ 7 ⌝ }
+    ensures { λ r. ⌜ r ≡ verdictOf (eachPlace (wordRows (list .words)) (list .count)) ⌝ }
+{
+    let count = list.count;
+    let mut before = EMPTY_PLACE.object;
+    let mut i: u8 = 0;
+    while i < count {
+        let at = i as usize;
+        let w = list.words[at];
+        let j = judge(i == 0, i + 1, before, w);
+        match j {
+            Judged::Fine(object) => {
+                before = object;
+            }
+            Judged::Refused(verdict) => {
+                return verdict;
+            }
+        }
+        i += 1;
+    }
+    Verdict {
+        number: verdicts::SUCCESS,
+        place: 0,
+    }
+}
+
+fn fixed_with(w: u32, volts: Mv50, current: Ma10) -> bool
+    ensures { λ r. ⌜ r ≡ ofObject (fixedWith (mv50 volts) current) (decodeOf w) ⌝ }
+{
+    let d = objects::decode(w);
+    let Decoded::Known(o) = d else {
+        return false;
+    };
+    let Object::Fixed {
+        volts: own_volts,
+        current: own_current,
+        ..
+    } = o
+    else {
+        return false;
+    };
+    if own_volts.0 != volts.0 {
+        return false;
+    }
+    own_current.0 == current.0
+}
+
+// Whether the list has a fixed object of this voltage and this current.
+fn has_fixed(list: Words, volts: Mv50, current: Ma10) -> bool
+    requires { ⌜ list .count ≤ 7 ⌝ }
+    ensures { λ r. ⌜ r ≡ hasFixed (list .words) (list .count) (mv50 volts) current ⌝ }
+{
+    let count = list.count;
+    let mut i: u8 = 0;
+    while i < count {
+        let at = i as usize;
+        let w = list.words[at];
+        if fixed_with(w, volts, current) {
+            return true;
+        }
+        i += 1;
+    }
+    false
+}
+
+// Whether an AVS object differs from the fixed objects of its list. 15 V is 300 steps of 50 mV, 20 V is 400.
+fn avs_differs(list: Words, o: Object) -> bool
+    requires { ⌜ list .count ≤ 7 ⌝ }
+    ensures { λ r. ⌜ r ≡ avsDiffers (list .words) (list .count) o ⌝ }
+{
+    let Object::Avs { low, high, .. } = o else {
+        return false;
+    };
+    if has_fixed(list, Mv50(300), low) {
+        if high.0 == 0 {
+            return false;
+        }
+        return !has_fixed(list, Mv50(400), high);
+    }
+    true
+}
+
+// The first AVS word that differs from its fixed objects.
+fn judge_avs(list: Words) -> Verdict
+    requires { ⌜ list .count ≤ 7 ⌝ }
+    ensures { λ r. ⌜ r ≡ verdictOf (eachPlace (avsRows (list .words) (list .count)) (list .count)) ⌝ }
+{
+    let count = list.count;
+    let mut i: u8 = 0;
+    while i < count {
+        let at = i as usize;
+        let w = list.words[at];
+        let d = objects::decode(w);
+        if let Decoded::Known(o) = d {
+            if avs_differs(list, o) {
+                return Verdict {
+                    number: verdicts::AVS_DIFFERS,
+                    place: i + 1,
+                };
+            }
+        }
+        i += 1;
+    }
+    Verdict {
+        number: verdicts::SUCCESS,
+        place: 0,
+    }
+}
+
+// The shape check: the number and the place of the first refusal, or success.
+pub fn shape(list: Words) -> Verdict
+    ensures { λ r. ⌜ Shapes list r ⌝ }
+{
+    let count = list.count;
+    if count < 1 {
+        return Verdict {
+            number: verdicts::COUNT,
+            place: 0,
+        };
+    }
+    if 7 < count {
+        return Verdict {
+            number: verdicts::COUNT,
+            place: 0,
+        };
+    }
+    let first = list.words[0];
+    if is_fixed_5_v(first) {
+        let words = judge_words(list);
+        if words.number != verdicts::SUCCESS {
+            return words;
+        }
+        return judge_avs(list);
+    }
+    Verdict {
+        number: verdicts::FIRST_NOT_FIXED_5_V,
+        place: 1,
+    }
+}

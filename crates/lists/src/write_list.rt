@@ -1,0 +1,75 @@
+// Writing: from objects to words.
+ghost use mathlib.Core.Path.{_≡_};
+ghost use Prim.Native.Nat.{_≤_};
+ghost use Rattle.lists.specs.Making.{madeOf};
+ghost use Rattle.lists.specs.Writing.{writeRefused};
+ghost use Rattle.lists.specs.Promises.{Writes};
+use crate::Objects;
+use crate::Words;
+use crate::Writing;
+use crate::shape_check::shape;
+use objects::Encoded;
+use verdicts::Verdict;
+
+// A refusal: the list is empty and all zero.
+fn refuse(number: u8, place: u8) -> Writing
+    ensures { λ r. ⌜ r ≡ writeRefused number place ⌝ }
+{
+    let words = [0u32; 7];
+    Writing {
+        verdict: Verdict { number, place },
+        list: Words { words, count: 0 },
+    }
+}
+
+// The word of each object, until one has a field too wide.
+fn encode_places(list: Objects) -> Writing
+    requires { ⌜ list .count ≤ 7 ⌝ }
+    ensures { λ r. ⌜ r ≡ madeOf list ⌝ }
+{
+    let count = list.count;
+    let mut words = [0u32; 7];
+    let mut i: u8 = 0;
+    while i < count {
+        let at = i as usize;
+        let place = list.places[at];
+        let object = place.object;
+        let e = objects::encode(object);
+        let Encoded::Word(w) = e else {
+            return refuse(verdicts::FIELD_TOO_WIDE, i + 1);
+        };
+        words[at] = w;
+        i += 1;
+    }
+    Writing {
+        verdict: Verdict {
+            number: verdicts::SUCCESS,
+            place: 0,
+        },
+        list: Words { words, count },
+    }
+}
+
+// The words of objects whose fields fit, if the words make a list.
+pub fn write(list: Objects) -> Writing
+    ensures { λ r. ⌜ Writes list r ⌝ }
+{
+    let count = list.count;
+    if count < 1 {
+        return refuse(verdicts::COUNT, 0);
+    }
+    if 7 < count {
+        return refuse(verdicts::COUNT, 0);
+    }
+    let made = encode_places(list);
+    let wide = made.verdict;
+    if wide.number != verdicts::SUCCESS {
+        return made;
+    }
+    let words = made.list;
+    let verdict = shape(words);
+    if verdict.number != verdicts::SUCCESS {
+        return refuse(verdict.number, verdict.place);
+    }
+    made
+}
