@@ -6,3 +6,4 @@ pub mod Sevens
 pub mod Shapes
 pub mod Readings
 pub mod Writings
+pub mod Unread

@@ -1,13 +1,13 @@
 -- Seven places that are filled one after the other.
 -- Assumes nothing.
 use mathlib.Core.Path.{_≡_, refl, sym, ap, _∙_}
-use mathlib.Core.Bool.{cond, true, false}
+use mathlib.Core.Bool.{Bool, cond, true, false}
 use mathlib.Core.List.{List, [], _∷_}
 use Prim.Native.Nat.{ℕ, zero, suc, _+_, _≤_, _<_}
 use native.Mathlib.Omega.{arith}
 use lib.ListN.{length, getD, set, replicate}
 use lib.Dec.{ltb}
-use borrow.Author.Tests.{le-ltb, lt-ltb}
+use borrow.Author.Tests.{lt-ltb, ltb-true}
 use Rattle.lists.specs.Seven.{placeTo, sevenTo}
 
 module _ {A : Type 0} (f : ℕ → A) (blank : A) where
@@ -37,3 +37,27 @@ module _ {A : Type 0} (f : ℕ → A) (blank : A) where
   one-blank (suc (suc (suc (suc (suc zero))))) h e = rw e
   one-blank (suc (suc (suc (suc (suc (suc zero)))))) h e = rw e
   one-blank (suc (suc (suc (suc (suc (suc (suc i))))))) h e = absurd (omega arith)
+
+  -- what stands at a place that is filled
+  pub filled-at : (n k : ℕ) → n ≤ 7 → k < n → getD (sevenTo f blank n) k blank ≡ f k
+  unfolding sevenTo
+  filled-at n k h l = at k (omega arith) ∙ ap (λ b. cond b (f k) blank) (lt-ltb k n l) where
+    at : (k : ℕ) → k < 7 → getD (sevenTo f blank n) k blank ≡ placeTo f blank n k
+    at zero h = refl
+    at (suc zero) h = refl
+    at (suc (suc zero)) h = refl
+    at (suc (suc (suc zero))) h = refl
+    at (suc (suc (suc (suc zero)))) h = refl
+    at (suc (suc (suc (suc (suc zero))))) h = refl
+    at (suc (suc (suc (suc (suc (suc zero)))))) h = refl
+    at (suc (suc (suc (suc (suc (suc (suc i))))))) h = absurd (omega arith)
+
+-- places that agree up to the count are the same seven
+pub same-seven : {A : Type 0} (f g : ℕ → A) (blank : A) (n : ℕ) → ((k : ℕ) → k < n → f k ≡ g k) → sevenTo f blank n ≡ sevenTo g blank n
+unfolding sevenTo
+same-seven f g blank n e = rw (one 0, one 1, one 2, one 3, one 4, one 5, one 6) where
+  one : (k : ℕ) → placeTo f blank n k ≡ placeTo g blank n k
+  one k = go (ltb k n) refl where
+    go : (b : Bool) → ltb k n ≡ b → cond b (f k) blank ≡ cond b (g k) blank
+    go true q = e k (ltb-true k n q)
+    go false q = refl

@@ -5,4 +5,5 @@ pub mod Reading
 pub mod Writing
 pub mod Judging
 pub mod Making
+pub mod Kept
 pub mod Promises

@@ -4,6 +4,7 @@ mod object_rules;
 mod read_list;
 mod shape_check;
 mod write_list;
+
 use objects::Object;
 pub use read_list::read;
 pub use shape_check::shape;

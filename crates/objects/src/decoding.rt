@@ -6,8 +6,8 @@ use crate::Decoded;
 use crate::Object;
 use steps::Ma10;
 use steps::Ma50;
-use steps::Mv100;
 use steps::Mv50;
+use steps::Mv100;
 use steps::Mw250;
 
 fn fixed(w: u32) -> Object

@@ -7,8 +7,8 @@ use crate::Encoded;
 use crate::Object;
 use steps::Ma10;
 use steps::Ma50;
-use steps::Mv100;
 use steps::Mv50;
+use steps::Mv100;
 
 fn fixed_word(flags: u8, peak: u8, volts: Mv50, current: Ma10) -> Encoded
     ensures { λ r. ⌜ r ≡ encodeOf (Object.Fixed flags peak volts current) ⌝ }

@@ -1,11 +1,13 @@
 // One word and one object (01, "Object words"): the kind, the bit places, and both ways between them.
 use steps::Ma10;
 use steps::Ma50;
-use steps::Mv100;
 use steps::Mv50;
+use steps::Mv100;
 use steps::Mw250;
+
 mod decoding;
 mod encoding;
+
 pub use decoding::decode;
 pub use decoding::reserved_bit_set;
 pub use encoding::encode;

@@ -1,1 +1,3 @@
+pub mod RoundingLaws
+pub mod ConversionLaws
 pub mod StepTests

@@ -1,1 +1,4 @@
 pub mod Units
+pub mod Rounding
+pub mod Measure
+pub mod Promises

@@ -1,6 +1,14 @@
 // Steps of measure (01, "Steps of measure"). Each step is a type of its own, so a figure in one step never stands
 // where another step is expected. The number inside counts steps: `Mv50(100)` is 5 V.
 
+mod currents;
+mod rounding;
+mod scaling;
+mod voltages;
+
+pub use rounding::round_down;
+pub use rounding::round_up;
+
 // Voltage in steps of 20 mV: what a PPS request asks for.
 #[repr(C)]
 pub struct Mv20(pub u16);
@@ -32,3 +40,35 @@ pub struct Mw250(pub u16);
 // Power in half watts: what a port is rated for (PDP).
 #[repr(C)]
 pub struct HalfWatts(pub u16);
+
+// What a conversion answers: the same measure in the steps asked for, or a refusal where no whole figure of 16 bits
+// gives it ("converting one loses nothing or refuses").
+pub enum InMv20 {
+    Exact(Mv20),
+    Refused,
+}
+
+pub enum InMv25 {
+    Exact(Mv25),
+    Refused,
+}
+
+pub enum InMv50 {
+    Exact(Mv50),
+    Refused,
+}
+
+pub enum InMv100 {
+    Exact(Mv100),
+    Refused,
+}
+
+pub enum InMa10 {
+    Exact(Ma10),
+    Refused,
+}
+
+pub enum InMa50 {
+    Exact(Ma50),
+    Refused,
+}

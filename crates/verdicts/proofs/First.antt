@@ -1,6 +1,6 @@
 -- Laws of the first refusal, over any table of rows: what a verdict says of the rows, and what the rows say of the verdict.
 -- Assumes nothing.
-use mathlib.Core.Path.{_≡_, refl, sym, ap, _∙_, subst}
+use mathlib.Core.Path.{_≡_, refl, sym, ap, ap₂, _∙_, subst}
 use mathlib.Core.Bool.{Bool, true, false, _&&_, and-eq-true-iff}
 use mathlib.Core.List.{List, [], _∷_, _++_}
 use mathlib.Core.Logic.{_↔_, ⊎-elim}
@@ -97,6 +97,12 @@ module _ (rows : ℕ → List Refusal) where
       (λ q. all-missed refused _ (eachPlace rows n) (subst (λ (j : ℕ). NoneApply (eachPlace rows j)) q clear)
       ∙ ap (λ (j : ℕ). firstOf refused (rows j) x) (sym q) ∙ e x)
       (λ l. decided refused k n a l clear e (firstOf refused (rows n) x)) (eq-or-lt-of-le (le-of-suc-le-suc h))
+
+-- tables that agree place by place are the same
+pub same-places : (f g : ℕ → List Refusal) (n : ℕ) → ((k : ℕ) → k < n → f k ≡ g k) → eachPlace f n ≡ eachPlace g n
+unfolding eachPlace
+same-places f g zero e = refl
+same-places f g (suc n) e = ap₂ _++_ (same-places f g n (λ k h. e k (omega arith))) (e n (lt-suc-self n))
 
 -- ---- every row has a number, and 0 is none
 

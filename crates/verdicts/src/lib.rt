@@ -15,10 +15,17 @@ pub const FIELD_TOO_WIDE: u8 = 7;
 
 // The shape of a list.
 pub const COUNT: u8 = 10;
+
 pub const FIRST_NOT_FIXED_5_V: u8 = 11;
+
 pub const KIND_NOT_ALLOWED: u8 = 12;
+
 pub const RESERVED_BIT: u8 = 13;
+
 pub const ORDER: u8 = 14;
+
 pub const VOLTAGE_BOUND: u8 = 15;
+
 pub const POWER_OVER_100_W: u8 = 16;
+
 pub const AVS_DIFFERS: u8 = 17;

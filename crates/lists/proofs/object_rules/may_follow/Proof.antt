@@ -30,12 +30,12 @@ rank-requires-2 : tie.Need-rank-requires-2
 rank-requires-2 c κs = search needs
 
 returns : tie.Need-returns
-returns c = 
+returns c =
     let x = c .before .before .before .args in
     sym (higher (x .before) (x .o) (omega (arith, c .before .before .rank .ensures, c .before .rank2 .ensures, c .if1 .taken)))
 
 returns-2 : tie.Need-returns-2
-returns-2 c = 
+returns-2 c =
     let x = c .before .before .before .before .args in
     sym (lower (x .before) (x .o) (omega (arith, c .before .before .before .rank .ensures, c .before .before .rank2 .ensures, c .if2 .taken)))
 

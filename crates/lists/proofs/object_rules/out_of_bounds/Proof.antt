@@ -21,10 +21,10 @@ enum-known-o-2 c = search needs
 
 returns : tie.Need-returns
 unfolding outOfBounds
-returns c = 
+returns c =
     let x = c .before .before .before .o2 .given .0 .0 .0 in
     let m = c .before .before .before .o2 .given .0 .1 .0 .0 in
-    rw (c .before .before .before .o2 .given .1) 
+    rw (c .before .before .before .o2 .given .1)
     (sym (not-first (leb (x * 50) 21000) (leb (m * 50) (x * 50)) (sym (past 50 420 x (omega arith)) ∙ lt-ltb _ _ (c .if1 .taken))))
 
 enum-known-o-3 : tie.Need-enum-known-o-3
@@ -32,10 +32,10 @@ enum-known-o-3 c = search needs
 
 returns-2 : tie.Need-returns-2
 unfolding outOfBounds
-returns-2 c = 
+returns-2 c =
     let x = c .before .before .before .o3 .given .0 .0 .0 in
     let m = c .before .before .before .o3 .given .0 .1 .0 .0 in
-    rw (c .before .before .before .o3 .given .1) 
+    rw (c .before .before .before .o3 .given .1)
     (sym (not-first (leb (x * 50) 21000) (leb (m * 50) (x * 50)) (sym (past 50 420 x (omega arith)) ∙ lt-ltb _ _ (c .if2 .taken))))
 
 enum-known-o-4 : tie.Need-enum-known-o-4
@@ -43,10 +43,10 @@ enum-known-o-4 c = search needs
 
 returns-3 : tie.Need-returns-3
 unfolding outOfBounds
-returns-3 c = 
+returns-3 c =
     let x = c .before .before .before .o4 .given .0 .1 .0 .0 in
     let m = c .before .before .before .o4 .given .0 .1 .1 .0 .0 in
-    rw (c .before .before .before .o4 .given .1) 
+    rw (c .before .before .before .o4 .given .1)
     (sym (not-first (leb (x * 100) 21000) (leb (m * 100) (x * 100)) (sym (past 100 210 x (omega arith)) ∙ lt-ltb _ _ (c .if3 .taken))))
 
 enum-told : tie.Need-enum-told
@@ -54,12 +54,12 @@ enum-told c = search needs
 
 returns-4 : tie.Need-returns-4
 unfolding outOfBounds
-returns-4 c = 
+returns-4 c =
     rw (c .before .before .o .given .1) (past 50 400 (c .before .before .o .given .0 .1 .1 .0 .0) (omega arith))
 
 returns-5 : tie.Need-returns-5
 unfolding outOfBounds
-returns-5 c = 
+returns-5 c =
     let x = c .before .before .before .before .before .o2 .given .0 .0 .0 in
     let m = c .before .before .before .before .before .o2 .given .0 .1 .0 .0 in
     rw (c .before .before .before .before .before .o2 .given .1)
@@ -68,7 +68,7 @@ returns-5 c =
 
 returns-6 : tie.Need-returns-6
 unfolding outOfBounds
-returns-6 c = 
+returns-6 c =
     let x = c .before .before .before .before .before .o3 .given .0 .0 .0 in
     let m = c .before .before .before .before .before .o3 .given .0 .1 .0 .0 in
     rw (c .before .before .before .before .before .o3 .given .1)
@@ -77,7 +77,7 @@ returns-6 c =
 
 returns-7 : tie.Need-returns-7
 unfolding outOfBounds
-returns-7 c = 
+returns-7 c =
     let x = c .before .before .before .before .before .o4 .given .0 .1 .0 .0 in
     let m = c .before .before .before .before .before .o4 .given .0 .1 .1 .0 .0 in
     rw (c .before .before .before .before .before .o4 .given .1)

@@ -50,20 +50,20 @@ enum-told-2 c = search needs
 
 returns : tie.Need-returns
 unfolding over100W
-returns c = 
+returns c =
     let o = c .before .before .before .o .given in
     rw (o .1) (watts (o .0 .1 .1 .0 .0) (o .0 .1 .1 .1 .0 .0))
 
 returns-2 : tie.Need-returns-2
 unfolding over100W
-returns-2 c = 
+returns-2 c =
     let o = c .before .before .o2 .given in
     rw (o .1) (past 250000 400 (o .0 .1 .1 .0 .0) (omega arith)
     ∙ ap (λ (x : ℕ). not (leb x 100000000)) (sym (mul-assoc (o .0 .1 .1 .0 .0) 250 1000)))
 
 returns-3 : tie.Need-returns-3
 unfolding over100W
-returns-3 c = 
+returns-3 c =
     let o = c .before .before .before .o3 .given in
     rw (o .1) (watts (o .0 .0 .0) (o .0 .1 .1 .0 .0))
 

@@ -63,7 +63,7 @@ loop-less : tie.Need-loop-less Inv-loop μ-loop
 loop-less c = search needs
 
 loop-again : tie.Need-loop-again Inv-loop μ-loop
-loop-again c = 
+loop-again c =
     let l = c .before .before .before .before .before .args .t1 in
     let at = c .before .before .before .before .loop in
     let f = placeOf (l .words) in
@@ -78,7 +78,7 @@ loop-again c =
     )
 
 returns : tie.Need-returns Inv-loop μ-loop
-returns c = 
+returns c =
     let l = c .before .before .args .t1 in
     let at = c .before .loop in
     let e : at .i ≡ l .count = omega arith in

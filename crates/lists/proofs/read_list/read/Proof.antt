@@ -23,7 +23,7 @@ shape-requires : tie.Need-shape-requires
 shape-requires c κs = search needs
 
 returns : tie.Need-returns
-returns c = 
+returns c =
     let e = c .before .before .shape .ensures in
     ap (λ (v : Verdict). given v noObjects) e ∙ sym (read-refused _ (λ z. c .if1 .taken (ap (λ (v : Verdict). v .number) e ∙ z)))
 
@@ -31,7 +31,7 @@ decode-words-requires : tie.Need-decode-words-requires
 decode-words-requires c κs = count-high _ (none-of _ (passed c) .0)
 
 returns-2 : tie.Need-returns-2
-returns-2 c = 
+returns-2 c =
     let n = passed (c .before) in
     ap (λ (v : Verdict). given v (c .decode-words .result)) (c .before .before .before .shape .ensures ∙ shape-success _ n)
     ∙ ap (given _) (c .decode-words .ensures)

@@ -17,7 +17,7 @@ enum-known-o c = search needs
 
 returns : tie.Need-returns
 unfolding avsDiffers
-returns c = 
+returns c =
     let x = c .before .args in
     sym (not-avs (λ low high. not (avsMatches (x .list .words) (x .list .count) low high)) (x .o) (c .match .keys2))
 
@@ -26,7 +26,7 @@ has-fixed-requires c κs = search needs
 
 returns-2 : tie.Need-returns-2
 unfolding avsDiffers
-returns-2 c = 
+returns-2 c =
     rw (c .before .before .before .before .before .o .given .1)
     (sym (ends-at-15-V _ _ _ _ (sym (c .before .before .before .has-fixed .ensures) ∙ c .before .before .if1 .taken) (c .if2 .taken)))
 
@@ -35,14 +35,14 @@ has-fixed-requires-2 c κs = search needs
 
 returns-3 : tie.Need-returns-3
 unfolding avsDiffers
-returns-3 c = 
+returns-3 c =
     rw (c .before .before .before .before .before .before .o .given .1)
     (ap not (c .has-fixed2 .ensures)
     ∙ sym (by-20-V _ _ _ _ (sym (c .before .before .before .before .has-fixed .ensures) ∙ c .before .before .before .if1 .taken) (c .before .if2 .left)))
 
 returns-4 : tie.Need-returns-4
 unfolding avsDiffers
-returns-4 c = 
+returns-4 c =
     rw (c .before .before .before .o .given .1)
     (sym (no-15-V _ _ _ (c .before .before .before .o .given .0 .1 .1 .0) (sym (c .before .has-fixed .ensures) ∙ c .if1 .left)))
 

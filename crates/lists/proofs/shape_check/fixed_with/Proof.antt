@@ -36,7 +36,7 @@ enum-told : tie.Need-enum-told
 enum-told c = search needs
 
 returns : tie.Need-returns
-returns c = 
+returns c =
     let x = c .before .before .before .args in
     sym (ap (ofObject (fixedWith (mv50 (x .volts)) (x .current))) (sym (c .before .before .decode .ensures) ∙ c .enum-told .given .1))
 
@@ -44,13 +44,13 @@ enum-known-o : tie.Need-enum-known-o
 enum-known-o c = search needs
 
 returns-2 : tie.Need-returns-2
-returns-2 c = 
+returns-2 c =
     let x = c .before .before .before .before .before .args in
     sym (ap (ofObject (fixedWith (mv50 (x .volts)) (x .current))) (known (c .before))
     ∙ not-fixed (λ v a. eqb (mv50 v) (mv50 (x .volts)) && eqb (a .0) (x .current .0)) (c .before .before .d .given .0 .0) (c .match2 .keys2))
 
 returns-3 : tie.Need-returns-3
-returns-3 c = 
+returns-3 c =
     let x = c .before .before .before .before .before .before .before .before .before .before .args in
     let o = c .before .before .before .before .o .given in
     let v = o .0 .1 .1 .0 .0 in
@@ -58,7 +58,7 @@ returns-3 c =
     ∙ ap (λ (b : Bool). b && eqb (o .0 .1 .1 .1 .0 .0) (x .current .0)) (sym (at 50 (x .volts .0) v (omega arith)) ∙ ne-eqb v (x .volts .0) (c .if1 .taken)))
 
 returns-4 : tie.Need-returns-4
-returns-4 c = 
+returns-4 c =
     let x = c .before .before .before .before .before .before .before .before .before .before .before .before .args in
     let o = c .before .before .before .before .before .before .o .given in
     let v = o .0 .1 .1 .0 .0 in

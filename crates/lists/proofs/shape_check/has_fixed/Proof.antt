@@ -33,7 +33,7 @@ fixed-with-requires : tie.Need-fixed-with-requires Inv-loop μ-loop
 fixed-with-requires c κs = search needs
 
 returns : tie.Need-returns Inv-loop μ-loop
-returns c = 
+returns c =
     let x = c .before .before .before .before .before .args in
     sym (found-at (x .t1 .words) (mv50 (x .volts)) (x .current) (x .t1 .count) (c .before .before .before .before .loop .i) (c .before .before .before .loop-test .taken) (sym (c .before .fixed-with .ensures) ∙ c .if1 .taken))
 
@@ -44,12 +44,12 @@ loop-less : tie.Need-loop-less Inv-loop μ-loop
 loop-less c = search needs
 
 loop-again : tie.Need-loop-again Inv-loop μ-loop
-loop-again c = 
+loop-again c =
     let x = c .before .before .before .before .before .args in
     (omega arith, none-more (x .t1 .words) (mv50 (x .volts)) (x .current) (c .before .before .before .before .loop .i) (c .before .before .before .before .loop .inv .1) (sym (c .before .fixed-with .ensures) ∙ c .if1 .left))
 
 returns-2 : tie.Need-returns-2 Inv-loop μ-loop
-returns-2 c = 
+returns-2 c =
     let x = c .before .before .args in
     let e : c .before .loop .i ≡ x .t1 .count = omega arith in
     sym (ap (λ (n : ℕ). hasFixed (x .t1 .words) n (mv50 (x .volts)) (x .current)) (sym e) ∙ c .before .loop .inv .1)

@@ -47,14 +47,14 @@ enum-known-o c = search needs
 
 returns-2 : tie.Need-returns-2
 unfolding isFixed5V
-returns-2 c = 
+returns-2 c =
     sym (ap (ofObject asked) (known (c .before)) ∙ not-fixed (λ v a. eqb (mv50 v) 5000) (c .before .before .d .given .0 .0) (c .match2 .keys2))
 
 returns-3 : tie.Need-returns-3
 unfolding isFixed5V
-returns-3 c = 
+returns-3 c =
     let o = c .before .before .o .given in
-    at 50 100 (o .0 .1 .1 .0 .0) (omega arith) ∙ sym (ap (ofObject asked) (known (c .before .before .before .before ) ∙ ap Known (o .1)))
+    at 50 100 (o .0 .1 .1 .0 .0) (omega arith) ∙ sym (ap (ofObject asked) (known (c .before .before .before .before) ∙ ap Known (o .1)))
 
 pub is-fixed-5-v-spec : {M : Type 1} → statement M
 is-fixed-5-v-spec =

@@ -49,7 +49,7 @@ add-t16 : tie.Need-add-t16 Inv-loop μ-loop
 add-t16 c = search needs
 
 returns : tie.Need-returns Inv-loop μ-loop
-returns c = 
+returns c =
     let l = c .before .before .before .before .before .before .before .before .before .args .t1 in
     let at = c .before .before .before .before .before .before .before .before .loop in
     let e = ap (ofObject (avsDiffers (l .words) (l .count))) (sym (c .before .before .before .before .before .decode .ensures) ∙ c .before .before .before .d .given .1)
@@ -67,16 +67,21 @@ loop-less : tie.Need-loop-less Inv-loop μ-loop
 loop-less c = search needs
 
 loop-again : tie.Need-loop-again Inv-loop μ-loop
-loop-again c = 
+loop-again c =
     let l = c .before .before .before .before .before .args .t1 in
     let at = c .before .before .before .before .loop in
-    let asked = ofObject (avsDiffers (l .words) (l .count)) in
-    (omega arith, none-more (avsRows (l .words) (l .count)) (at .i) (at .inv .1) (⊎-elim
-    (λ w. ap asked (sym (c .before .decode .ensures) ∙ w .1 .given .1) ∙ sym (w .3 .ensures) ∙ w .4 .left)
-    (λ w. ap asked (sym (c .before .decode .ensures) ∙ w .1 .given .1)) (c .match .came), tt))
+    let asked = ofObject (avsDiffers (l .words) (l .count)) in (
+      omega arith,
+      none-more (avsRows (l .words) (l .count)) (at .i) (at .inv .1) (
+        ⊎-elim
+            (λ w. ap asked (sym (c .before .decode .ensures) ∙ w .1 .given .1) ∙ sym (w .3 .ensures) ∙ w .4 .left)
+            (λ w. ap asked (sym (c .before .decode .ensures) ∙ w .1 .given .1)) (c .match .came),
+        tt,
+      ),
+    )
 
 returns-2 : tie.Need-returns-2 Inv-loop μ-loop
-returns-2 c = 
+returns-2 c =
     let l = c .before .before .args .t1 in
     let at = c .before .loop in
     let e : at .i ≡ l .count = omega arith in

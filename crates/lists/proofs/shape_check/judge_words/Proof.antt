@@ -15,7 +15,7 @@ use Rattle.lists.proofs.shape_check.judge_words.Statement.{statement}
 use Rattle.lists.proofs.shape_check.judge_words.Tie as tie
 
 abbrev Inv-loop : tie.InvT-loop
-Inv-loop list count before₀ i₀ before i = 
+Inv-loop list count before₀ i₀ before i =
     (i ≤ count)
     × (NoneApply (eachPlace (wordRows (list .words)) i))
     × (0 < i → decodeOf (getD (list .words) (i - 1) 0) ≡ Known before)
@@ -48,7 +48,7 @@ enum-known-j-2 : tie.Need-enum-known-j-2 Inv-loop μ-loop
 enum-known-j-2 c = search needs
 
 returns : tie.Need-returns Inv-loop μ-loop
-returns c = 
+returns c =
     let l = c .before .before .before .before .before .before .before .args .t1 in
     let at = c .before .before .before .before .before .before .loop in
     sym (decided (wordRows (l .words)) verdict (at .i) (l .count) _ (c .before .before .before .before .before .loop-test .taken) (at .inv .1)
@@ -61,7 +61,7 @@ loop-less : tie.Need-loop-less Inv-loop μ-loop
 loop-less c = search needs
 
 loop-again : tie.Need-loop-again Inv-loop μ-loop
-loop-again c = 
+loop-again c =
     let l = c .before .before .before .before .before .before .before .args .t1 in
     let at = c .before .before .before .before .before .before .loop in
     let e = sym (c .before .before .before .judge .ensures) ∙ c .before .j .given .1 in
@@ -72,7 +72,7 @@ loop-again c =
     )
 
 returns-2 : tie.Need-returns-2 Inv-loop μ-loop
-returns-2 c = 
+returns-2 c =
     let l = c .before .before .args .t1 in
     let at = c .before .loop in
     let e : at .i ≡ l .count = omega arith in

@@ -32,7 +32,7 @@ judge-words-requires : tie.Need-judge-words-requires
 judge-words-requires c κs = search needs
 
 returns-3 : tie.Need-returns-3
-returns-3 c = 
+returns-3 c =
     let l = c .before .before .before .before .before .before .before .before .args .t1 in
     let e = c .before .before .judge-words .ensures in
     e ∙ sym (started (c .before .before .before) ∙ refused-so verdict _ (λ z. c .if4 .taken (ap (λ (v : Verdict). v .number) e ∙ z)) _)
@@ -41,14 +41,14 @@ judge-avs-requires : tie.Need-judge-avs-requires
 judge-avs-requires c κs = search needs
 
 returns-4 : tie.Need-returns-4
-returns-4 c = 
+returns-4 c =
     let l = c .before .before .before .before .before .before .before .before .before .args .t1 in
     let e = c .before .before .before .judge-words .ensures in
     c .judge-avs .ensures
     ∙ sym (started (c .before .before .before .before) ∙ all-missed verdict _ _ (none-applied _ (words-numbered l) (sym (ap (λ (v : Verdict). v .number) e) ∙ c .before .if4 .left)))
 
 returns-5 : tie.Need-returns-5
-returns-5 c = 
+returns-5 c =
     sym (misbegun _ (counted _ (c .before .before .before .before .if1 .left) (c .before .before .before .if2 .left)) (sym (c .before .is-fixed-5-v .ensures) ∙ c .if3 .left))
 
 pub shape-spec : {M : Type 1} → statement M

@@ -23,7 +23,7 @@ abbrev made : List ℕ → ℕ → Writing
 made ws n = record { verdict = success; list = record { words = ws; count = n } }
 
 abbrev Inv-loop : tie.InvT-loop
-Inv-loop list count words₀ i₀ words i = 
+Inv-loop list count words₀ i₀ words i =
     (i ≤ count)
     × (NoneApply (eachPlace (wideRows (list .places)) i))
     × (words ≡ sevenTo (λ (k : ℕ). wordIn (encodedAt (list .places) k)) 0 i)
@@ -60,7 +60,7 @@ refuse-requires c κs = search needs
 
 returns : tie.Need-returns Inv-loop μ-loop
 unfolding madeOf
-returns c = 
+returns c =
     let l = c .before .before .before .before .before .before .before .args .t1 in
     let at = c .before .before .before .before .before .before .loop in
     let e = ap (λ (x : Encoded). eqb (encodedNumber x) 7) (sym (c .before .before .before .encode .ensures) ∙ c .before .enum-told .given .1) in
@@ -81,7 +81,7 @@ loop-less : tie.Need-loop-less Inv-loop μ-loop
 loop-less c = search needs
 
 loop-again : tie.Need-loop-again Inv-loop μ-loop
-loop-again c = 
+loop-again c =
     let l = c .before .before .before .before .before .before .before .args .t1 in
     let at = c .before .before .before .before .before .before .loop in
     let d = sym (c .before .before .before .encode .ensures) ∙ c .before .e .given .1 in (
@@ -93,7 +93,7 @@ loop-again c =
 
 returns-2 : tie.Need-returns-2 Inv-loop μ-loop
 unfolding madeOf
-returns-2 c = 
+returns-2 c =
     let l = c .before .before .args .t1 in
     let at = c .before .loop in
     let e : at .i ≡ l .count = omega arith in

@@ -47,7 +47,7 @@ encode-places-requires : tie.Need-encode-places-requires
 encode-places-requires c κs = search needs
 
 returns-3 : tie.Need-returns-3
-returns-3 c = 
+returns-3 c =
     let e = c .before .before .before .encode-places .ensures in
     e ∙ wide _ (counted _ (c .before .before .before .before .before .if1 .left) (c .before .before .before .before .if2 .left)) (λ z. c .if3 .taken (ap number e ∙ z))
 
@@ -58,14 +58,14 @@ refuse-requires-3 : tie.Need-refuse-requires-3
 refuse-requires-3 c κs = search needs
 
 returns-4 : tie.Need-returns-4
-returns-4 c = 
+returns-4 c =
     let p = c .before .before .before .before .before in
     c .refuse3 .ensures
     ∙ ap₂ writeRefused (ap (λ (v : Verdict). v .number) (shaped (c .before .before .before))) (ap (λ (v : Verdict). v .place) (shaped (c .before .before .before)))
     ∙ sym (misshapen _ (well-counted p) (fitting p) (λ z. c .before .if4 .taken (ap (λ (v : Verdict). v .number) (shaped (c .before .before .before)) ∙ z)))
 
 returns-5 : tie.Need-returns-5
-returns-5 c = 
+returns-5 c =
     let p = c .before .before .before .before in
     p .before .before .before .encode-places .ensures
     ∙ made-is _ (fitting p)

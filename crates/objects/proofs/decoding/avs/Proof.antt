@@ -16,7 +16,7 @@ cast-t10 : tie.Need-cast-t10
 cast-t10 c = low-fits (c .args .w) 9 tt
 
 returns : tie.Need-returns
-returns c = 
+returns c =
     let w = c .args .w in
     cc (taken w 27 26, taken w 19 10, taken-low w 9)
 

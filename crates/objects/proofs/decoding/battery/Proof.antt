@@ -16,7 +16,7 @@ cast-t11 : tie.Need-cast-t11
 cast-t11 c = low-fits (c .args .w) 9 tt
 
 returns : tie.Need-returns
-returns c = 
+returns c =
     let w = c .args .w in
     cc (taken w 29 20, taken w 19 10, taken-low w 9)
 

@@ -45,17 +45,17 @@ returns-3 : tie.Need-returns-3
 returns-3 c = ap Known (c .variable .ensures) ∙ sym (kind-is _ 2 (sym (taken _ 31 30) ∙ c .before .match .keys3))
 
 returns-4 : tie.Need-returns-4
-returns-4 c = 
+returns-4 c =
     ap Known (c .pps .ensures)
     ∙ sym (augmented-is _ 0 (is-augmented (c .before .before)) (sym (taken _ 29 28) ∙ c .before .match2 .keys1))
 
 returns-5 : tie.Need-returns-5
-returns-5 c = 
+returns-5 c =
     ap Known (c .avs .ensures)
     ∙ sym (augmented-is _ 2 (is-augmented (c .before .before)) (sym (taken _ 29 28) ∙ c .before .match2 .keys2))
 
 returns-6 : tie.Need-returns-6
-returns-6 c = 
+returns-6 c =
     let w = c .before .before .args .w in
     let t = taken w 29 28 in
     sym (augmented-is w (bits w 29 28) (is-augmented (c .before)) refl

@@ -19,7 +19,7 @@ cast-t13 : tie.Need-cast-t13
 cast-t13 c = low-fits (c .args .w) 9 tt
 
 returns : tie.Need-returns
-returns c = 
+returns c =
     let w = c .args .w in
     cc (taken w 29 23, taken w 21 20, taken w 19 10, taken-low w 9)
 

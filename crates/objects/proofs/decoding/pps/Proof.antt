@@ -19,7 +19,7 @@ cast-t14 : tie.Need-cast-t14
 cast-t14 c = low-fits (c .args .w) 6 tt
 
 returns : tie.Need-returns
-returns c = 
+returns c =
     let w = c .args .w in
     cc (taken w 27 27, taken w 24 17, taken w 15 8, taken-low w 6)
 

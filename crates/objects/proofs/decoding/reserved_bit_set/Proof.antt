@@ -45,13 +45,13 @@ enum-told-4 c = search needs
 
 returns : tie.Need-returns
 unfolding reservedSet
-returns c = 
+returns c =
     let w = c .before .before .before .args .w in
     rw (c .before .enum-told4 .given .1) (sym (one-set (clear w 16 16) (clear w 7 7) (is-not-clear (c .if2 .taken) (taken w 26 25))))
 
 returns-2 : tie.Need-returns-2
 unfolding reservedSet
-returns-2 c = 
+returns-2 c =
     let w = c .before .before .before .before .args .w in
     rw (c .before .before .enum-told4 .given .1)
     (sym (two-set (clear w 7 7) (is-clear (c .before .if2 .left) (taken w 26 25)) (is-not-clear (c .if3 .taken) (taken w 16 16))))
@@ -61,13 +61,13 @@ enum-told-5 c = search needs
 
 returns-3 : tie.Need-returns-3
 unfolding reservedSet
-returns-3 c = 
+returns-3 c =
     let w = c .before .before .before .args .w in
     rw (c .before .enum-told .given .1, c .if1 .taken) (is-set (taken w 22 22))
 
 returns-4 : tie.Need-returns-4
 unfolding reservedSet
-returns-4 c = 
+returns-4 c =
     let w = c .before .before .before .args .w in
     rw (c .before .enum-told .given .1, c .if1 .left) (is-set (taken w 29 22))
 
@@ -81,7 +81,7 @@ returns-6 c = rw (c .enum-told3 .given .1)
 
 returns-7 : tie.Need-returns-7
 unfolding reservedSet
-returns-7 c = 
+returns-7 c =
     let w = c .before .before .before .before .args .w in
     rw (c .before .before .enum-told4 .given .1)
     (is-set (taken w 7 7)
@@ -89,7 +89,7 @@ returns-7 c =
 
 returns-8 : tie.Need-returns-8
 unfolding reservedSet
-returns-8 c = 
+returns-8 c =
     let w = c .before .before .args .w in
     rw (c .enum-told5 .given .1) (is-set (taken w 25 20))
 

@@ -23,7 +23,7 @@ returns-2 c = simp (lt-ltb _ _ (c .before .before .if1 .left), le-ltb _ _ (c .if
 
 returns-3 : tie.Need-returns-3
 unfolding wordOf
-returns-3 c = 
+returns-3 c =
     simp (lt-ltb _ _ (c .before .before .before .if1 .left), lt-ltb _ _ (c .before .if2 .left), le-ltb _ _ (c .if3 .taken))
 
 cast-t5 : tie.Need-cast-t5
@@ -34,7 +34,7 @@ cast-t6 c = search needs
 
 returns-4 : tie.Need-returns-4
 unfolding wordOf
-returns-4 c = 
+returns-4 c =
     let p = c .before .before in
     let x = p .before .before .before .before .before .args in
     let hh = p .before .before .before .if1 .left in

@@ -23,12 +23,12 @@ returns-2 c = simp (lt-ltb _ _ (c .before .before .if1 .left), le-ltb _ _ (c .if
 
 returns-3 : tie.Need-returns-3
 unfolding wordOf
-returns-3 c = 
+returns-3 c =
     simp (lt-ltb _ _ (c .before .before .before .before .if1 .left), lt-ltb _ _ (c .before .before .if2 .left), le-ltb _ _ (c .if3 .taken))
 
 returns-4 : tie.Need-returns-4
 unfolding wordOf
-returns-4 c = 
+returns-4 c =
     simp (
       lt-ltb _ _ (c .before .before .before .before .before .if1 .left),
       lt-ltb _ _ (c .before .before .before .if2 .left),
@@ -47,7 +47,7 @@ cast-t10 c = search needs
 
 returns-5 : tie.Need-returns-5
 unfolding wordOf
-returns-5 c = 
+returns-5 c =
     let p = c .before .before .before in
     let x = p .before .before .before .before .before .before .before .args in
     let ha = p .before .before .before .before .before .if1 .left in

@@ -22,12 +22,12 @@ returns-2 c = simp (lt-ltb _ _ (c .before .if1 .left), le-ltb _ _ (c .if2 .taken
 
 returns-3 : tie.Need-returns-3
 unfolding wordOf
-returns-3 c = 
+returns-3 c =
     simp (lt-ltb _ _ (c .before .before .if1 .left), lt-ltb _ _ (c .before .if2 .left), le-ltb _ _ (c .if3 .taken))
 
 returns-4 : tie.Need-returns-4
 unfolding wordOf
-returns-4 c = 
+returns-4 c =
     let x = c .before .before .before .args in
     let hf = c .before .before .if1 .left in
     let hm = c .before .if2 .left in

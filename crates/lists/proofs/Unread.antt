@@ -1,0 +1,135 @@
+-- Places past the count are not read: lists that agree up to the count get the same answer.
+-- Assumes nothing.
+use mathlib.Core.Path.{_≡_, refl, sym, ap, ap₂, _∙_}
+use mathlib.Core.Bool.{Bool, true, false, not, _&&_, _||_}
+use mathlib.Core.List.{List, [], _∷_, _++_}
+use Prim.Native.Nat.{ℕ, zero, suc, _+_, _-_, _<_}
+use native.Mathlib.Nat.{lt-suc-self}
+use native.Mathlib.Omega.{arith}
+use lib.Dec.{eqb}
+use lib.ListN.{getD}
+use Rattle.verdicts.specs.Refusals.{Refusal, refusal, eachPlace, firstOf, verdict, success, verdictOf}
+use Rattle.verdicts.proofs.First.{hit, same-places}
+use Rattle.steps.specs.declared.Ma10.{Ma10}
+use Rattle.objects.specs.declared.Object.{Object}
+use Rattle.objects.specs.declared.Object.the-variants.{Fixed, Battery, Variable, Pps, Avs}
+use Rattle.objects.specs.declared.Decoded.{Decoded}
+use Rattle.objects.specs.declared.Decoded.the-variants.{Known, NotAllowed}
+use Rattle.objects.specs.Asking.{ofObject}
+use Rattle.objects.specs.Decode.{decodeOf}
+use Rattle.objects.specs.Encode.{encodeOf, encodedNumber}
+use Rattle.lists.specs.declared.Words.{Words}
+use Rattle.lists.specs.declared.Place.{Place}
+use Rattle.lists.specs.declared.Objects.{Objects}
+use Rattle.lists.specs.declared.Reading.{Reading}
+use Rattle.lists.specs.declared.Writing.{Writing}
+use Rattle.lists.specs.Shape.{badCount, isFixed5V, wordRefusals, wordRows, fixedWith, hasFixed, avsMatches, avsDiffers, avsRows, shapeRefusals, shapeOf}
+use Rattle.lists.specs.Seven.{sevenTo}
+use Rattle.lists.specs.Reading.{emptyPlace, objectOf, placeOf, objectsOf, readRefused, readOf}
+use Rattle.lists.specs.Writing.{encodedAt, wideRows, wordIn, wordsOf, writeRefusals, writeRefused, writeOf}
+use Rattle.lists.proofs.Shapes.{count-low}
+use Rattle.lists.proofs.Sevens.{same-seven}
+use Rattle.lists.proofs.Readings.{readAs}
+use Rattle.lists.proofs.Writings.{writtenAs}
+
+-- the same count, and the same words up to it
+pub record AgreeWords (l m : Words) : Type 0 where
+  pub count : l .count ≡ m .count
+  pub words : (k : ℕ) → k < l .count → getD (l .words) k 0 ≡ getD (m .words) k 0
+
+pub record AgreeObjects (o q : Objects) : Type 0 where
+  pub count : o .count ≡ q .count
+  pub places : (k : ℕ) → k < o .count → getD (o .places) k emptyPlace ≡ getD (q .places) k emptyPlace
+
+module _ (ws vs : List ℕ) (n : ℕ) (e : (k : ℕ) → k < n → getD ws k 0 ≡ getD vs k 0) where
+  same-word-rows : (k : ℕ) → k < n → wordRows ws k ≡ wordRows vs k
+  same-word-rows k h =
+      ap₂ (λ (b w : ℕ). wordRefusals (eqb k 0) (k + 1) (decodeOf b) w) (e (k - 1) (omega arith)) (e k h)
+
+-- among the first k words
+same-fixed : (ws vs : List ℕ) (k : ℕ) → ((j : ℕ) → j < k → getD ws j 0 ≡ getD vs j 0) → (mv : ℕ) (current : Ma10) → hasFixed ws k mv current ≡ hasFixed vs k mv current
+unfolding hasFixed
+same-fixed ws vs zero e mv current = refl
+same-fixed ws vs (suc k) e mv current =
+    ap₂ (λ (b : Bool) (w : ℕ). b || ofObject (fixedWith mv current) (decodeOf w))
+    (same-fixed ws vs k (λ j h. e j (omega arith)) mv current) (e k (lt-suc-self k))
+
+module _ (ws vs : List ℕ) (n : ℕ) (e : (k : ℕ) → k < n → getD ws k 0 ≡ getD vs k 0) where
+  same-differs : (d : Decoded) → ofObject (avsDiffers ws n) d ≡ ofObject (avsDiffers vs n) d
+  unfolding avsDiffers
+  same-differs (Known (Fixed f p v a)) = refl
+  same-differs (Known (Battery x m p)) = refl
+  same-differs (Known (Variable x m a)) = refl
+  same-differs (Known (Pps l x m a)) = refl
+  same-differs (Known (Avs p l h)) =
+      ap₂ (λ (a b : Bool). not (a && (eqb (h .0) 0 || b))) (same-fixed ws vs n e 15000 l) (same-fixed ws vs n e 20000 h)
+  same-differs NotAllowed = refl
+
+  same-avs-rows : (k : ℕ) → k < n → avsRows ws n k ≡ avsRows vs n k
+  same-avs-rows k h =
+      ap (λ (b : Bool). refusal b 17 (k + 1) ∷ [])
+      (same-differs (decodeOf (getD ws k 0)) ∙ ap (λ (w : ℕ). ofObject (avsDiffers vs n) (decodeOf w)) (e k h))
+
+  -- with a count of 1 to 7 the very tables are the same
+  pub same-shape-rows : badCount n ≡ false → shapeRefusals (record { words = ws; count = n }) ≡ shapeRefusals (record { words = vs; count = n })
+  same-shape-rows b =
+      ap₂ (λ (w : ℕ) (rs : List Refusal). refusal (badCount n) 10 0 ∷ refusal (not (isFixed5V w)) 11 1 ∷ rs) (e 0 (count-low n b))
+      (ap₂ _++_ (same-places (wordRows ws) (wordRows vs) n (same-word-rows ws vs n e)) (same-places (avsRows ws n) (avsRows vs n) n same-avs-rows))
+
+  -- any answer over the shape's rows
+  pub same-by-shape : {A : Type 0} (refused : ℕ → ℕ → A) (x y : A) → x ≡ y
+      → firstOf refused (shapeRefusals (record { words = ws; count = n })) x ≡ firstOf refused (shapeRefusals (record { words = vs; count = n })) y
+  same-by-shape refused x y q = go (badCount n) refl where
+    go : (b : Bool) → badCount n ≡ b
+        → firstOf refused (shapeRefusals (record { words = ws; count = n })) x ≡ firstOf refused (shapeRefusals (record { words = vs; count = n })) y
+    go true b = hit refused x 10 0 _ b ∙ sym (hit refused y 10 0 _ b)
+    go false b = ap₂ (λ (rs : List Refusal) (z : _). firstOf refused rs z) (same-shape-rows b) q
+
+abbrev counting : List ℕ → ℕ → Words
+counting ws n = record { words = ws; count = n }
+
+module _ (l m : Words) (a : AgreeWords l m) where
+  pub shape-unread : shapeOf l ≡ shapeOf m
+  unfolding shapeOf
+  shape-unread =
+      same-by-shape (l .words) (m .words) (l .count) (a .words) verdict success success refl
+      ∙ ap (λ (n : ℕ). verdictOf (shapeRefusals (counting (m .words) n))) (a .count)
+
+  pub read-unread : readOf l ≡ readOf m
+  unfolding readOf
+  read-unread =
+      same-by-shape (l .words) (m .words) (l .count) (a .words) readRefused (readAs l) (readAs (counting (m .words) (l .count)))
+      (ap (λ (ps : List Place). asRead ps (l .count))
+      (same-seven (placeOf (l .words)) (placeOf (m .words)) emptyPlace (l .count) (λ k h. ap placed (a .words k h))))
+      ∙ ap (λ (n : ℕ). readOf (counting (m .words) n)) (a .count)
+    where
+      placed : ℕ → Place
+      placed w = record { object = objectOf (decodeOf w) }
+
+      asRead : List Place → ℕ → Reading
+      asRead ps n = record { verdict = success; list = record { places = ps; count = n } }
+
+abbrev holding : List Place → ℕ → Objects
+holding ps n = record { places = ps; count = n }
+
+module _ (ps qs : List Place) (n : ℕ) (e : (k : ℕ) → k < n → getD ps k emptyPlace ≡ getD qs k emptyPlace) where
+  same-wide-rows : eachPlace (wideRows ps) n ≡ eachPlace (wideRows qs) n
+  same-wide-rows = same-places (wideRows ps) (wideRows qs) n (λ k h. ap (wideRow k) (e k h)) where
+    wideRow : ℕ → Place → List Refusal
+    wideRow k p = refusal (eqb (encodedNumber (encodeOf (p .object))) 7) 7 (k + 1) ∷ []
+
+  same-made : wordsOf (holding ps n) ≡ wordsOf (holding qs n)
+  same-made =
+      ap (λ (ws : List ℕ). counting ws n)
+      (same-seven (λ (k : ℕ). wordIn (encodedAt ps k)) (λ (k : ℕ). wordIn (encodedAt qs k)) 0 n (λ k h. ap (λ (p : Place). wordIn (encodeOf (p .object))) (e k h)))
+
+module _ (o q : Objects) (a : AgreeObjects o q) where
+  pub write-unread : writeOf o ≡ writeOf q
+  unfolding writeOf
+  write-unread =
+      ap₂ (λ (rs : List Refusal) (l : Words). answer rs l) (same-wide-rows (o .places) (q .places) (o .count) (a .places))
+      (same-made (o .places) (q .places) (o .count) (a .places))
+      ∙ ap (λ (n : ℕ). writeOf (holding (q .places) n)) (a .count)
+    where
+      answer : List Refusal → Words → Writing
+      answer rs l = firstOf writeRefused (refusal (badCount (o .count)) 10 0 ∷ (rs ++ shapeRefusals l)) (record { verdict = success; list = l })

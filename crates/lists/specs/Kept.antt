@@ -1,0 +1,14 @@
+-- A list as it is returned (01, "What the library covers"): the same up to the count, zero past it.
+-- Assumes nothing.
+use Prim.Native.Nat.{ℕ}
+use lib.ListN.{getD}
+use Rattle.lists.specs.declared.Words.{Words}
+use Rattle.lists.specs.declared.Objects.{Objects}
+use Rattle.lists.specs.Seven.{sevenTo}
+use Rattle.lists.specs.Reading.{emptyPlace}
+
+abbrev pub keptWords : Words → Words
+keptWords l = record { words = sevenTo (λ (k : ℕ). getD (l .words) k 0) 0 (l .count); count = l .count }
+
+abbrev pub keptObjects : Objects → Objects
+keptObjects o = record { places = sevenTo (λ (k : ℕ). getD (o .places) k emptyPlace) emptyPlace (o .count); count = o .count }
