@@ -1,1 +1,5 @@
+pub mod Contracts
+pub mod Refusals
+pub mod RoundTrips
+pub mod Unread
 pub mod OneOutcome

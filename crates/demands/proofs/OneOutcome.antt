@@ -1,9 +1,89 @@
--- No second outcome (01, "What the contracts settle"): what a public call's contract says of its answer is said of one answer only.
+-- No second outcome (01, "What the contracts settle"): for every input, a public call's contract allows one answer only.
 -- Assumes nothing.
 use mathlib.Core.Path.{_≡_, sym, _∙_}
-use Rattle.verdicts.specs.declared.Verdict.{Verdict}
-use Rattle.lists.specs.declared.Words.{Words}
-use Rattle.lists.proofs.shape.Reads as shape
+use mathlib.Core.Bool.{Bool}
+use Prim.Native.Nat.{ℕ}
+use Rattle.objects.specs.declared.Object.{Object}
+use Rattle.demands.proofs.Contracts.{RoundDownAnswers, RoundUpAnswers}
+use Rattle.demands.proofs.Contracts.{Mv20ToMv25Answers, Mv20ToMv50Answers, Mv20ToMv100Answers, Mv25ToMv20Answers, Mv25ToMv50Answers, Mv25ToMv100Answers, Mv50ToMv20Answers, Mv50ToMv25Answers, Mv50ToMv100Answers, Mv100ToMv20Answers, Mv100ToMv25Answers, Mv100ToMv50Answers, Ma10ToMa50Answers, Ma50ToMa10Answers}
+use Rattle.demands.proofs.Contracts.{DecodeAnswers, ReservedAnswers, EncodeAnswers}
+use Rattle.demands.proofs.Contracts.{ShapeAnswers, ReadAnswers, WriteAnswers}
 
-pub shape-settles : (l : Words) (r s : Verdict) → shape.Post tt (l, tt) r (l, tt) → shape.Post tt (l, tt) s (l, tt) → r ≡ s
-shape-settles l r s x y = x ∙ sym y
+abbrev pub Settled : {A R : Type 0} → (A → R → Type 0) → Type 0
+Settled {A} {R} allows = (a : A) (r s : R) → allows a r → allows a s → r ≡ s
+
+-- every contract here says that the answer equals a definition
+only : {R : Type 0} {x r s : R} → r ≡ x → s ≡ x → r ≡ s
+only e f = e ∙ sym f
+
+-- ---- steps
+
+pub round-down-settles : (numerator : ℕ) → Settled (RoundDownAnswers numerator)
+round-down-settles numerator divisor r s e f = only e f
+
+pub round-up-settles : (numerator : ℕ) → Settled (RoundUpAnswers numerator)
+round-up-settles numerator divisor r s e f = only e f
+
+pub mv20-to-mv25-settles : Settled Mv20ToMv25Answers
+mv20-to-mv25-settles v r s e f = only e f
+
+pub mv20-to-mv50-settles : Settled Mv20ToMv50Answers
+mv20-to-mv50-settles v r s e f = only e f
+
+pub mv20-to-mv100-settles : Settled Mv20ToMv100Answers
+mv20-to-mv100-settles v r s e f = only e f
+
+pub mv25-to-mv20-settles : Settled Mv25ToMv20Answers
+mv25-to-mv20-settles v r s e f = only e f
+
+pub mv25-to-mv50-settles : Settled Mv25ToMv50Answers
+mv25-to-mv50-settles v r s e f = only e f
+
+pub mv25-to-mv100-settles : Settled Mv25ToMv100Answers
+mv25-to-mv100-settles v r s e f = only e f
+
+pub mv50-to-mv20-settles : Settled Mv50ToMv20Answers
+mv50-to-mv20-settles v r s e f = only e f
+
+pub mv50-to-mv25-settles : Settled Mv50ToMv25Answers
+mv50-to-mv25-settles v r s e f = only e f
+
+pub mv50-to-mv100-settles : Settled Mv50ToMv100Answers
+mv50-to-mv100-settles v r s e f = only e f
+
+pub mv100-to-mv20-settles : Settled Mv100ToMv20Answers
+mv100-to-mv20-settles v r s e f = only e f
+
+pub mv100-to-mv25-settles : Settled Mv100ToMv25Answers
+mv100-to-mv25-settles v r s e f = only e f
+
+pub mv100-to-mv50-settles : Settled Mv100ToMv50Answers
+mv100-to-mv50-settles v r s e f = only e f
+
+pub ma10-to-ma50-settles : Settled Ma10ToMa50Answers
+ma10-to-ma50-settles v r s e f = only e f
+
+pub ma50-to-ma10-settles : Settled Ma50ToMa10Answers
+ma50-to-ma10-settles v r s e f = only e f
+
+-- ---- objects
+
+pub decode-settles : Settled DecodeAnswers
+decode-settles w r s e f = only e f
+
+pub reserved-bit-set-settles : (o : Object) (first : Bool) → Settled (ReservedAnswers o first)
+reserved-bit-set-settles o first w r s e f = only e f
+
+pub encode-settles : Settled EncodeAnswers
+encode-settles o r s e f = only e f
+
+-- ---- lists
+
+pub shape-settles : Settled ShapeAnswers
+shape-settles l r s e f = only e f
+
+pub read-settles : Settled ReadAnswers
+read-settles l r s e f = only e f
+
+pub write-settles : Settled WriteAnswers
+write-settles o r s e f = only e f

@@ -7,3 +7,4 @@ pub mod Shapes
 pub mod Readings
 pub mod Writings
 pub mod Unread
+pub mod RoundTrips

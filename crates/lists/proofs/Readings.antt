@@ -8,7 +8,7 @@ use Rattle.verdicts.proofs.First.{NoneApply, all-missed, passes, refused-so, on
 use Rattle.lists.specs.declared.Words.{Words}
 use Rattle.lists.specs.declared.Reading.{Reading}
 use Rattle.lists.specs.Shape.{shapeRefusals, shapeOf}
-use Rattle.lists.specs.Reading.{objectsOf, readRefused, readOf}
+use Rattle.lists.specs.Reading.{noObjects, objectsOf, readRefused, readOf}
 use Rattle.lists.proofs.Shapes.{shape-numbered, none-of}
 
 abbrev pub readAs : Words → Reading
@@ -34,3 +34,8 @@ module _ (l : Words) where
 
   pub read-passes : shapeOf l .number ≡ 0 → readOf l ≡ readAs l
   read-passes e = read-clear (none-of l e)
+
+  -- "A refusal returns its number, the place, and zero for all else, an empty list included"
+  pub read-empty : (readOf l .verdict ≡ success → ⊥) → readOf l .list ≡ noObjects
+  read-empty f =
+      ap (λ (r : Reading). r .list) (read-refused (λ z. f (read-verdict ∙ shape-success z)))

@@ -66,6 +66,10 @@ module _ (l : Words) where
 
   -- ---- a shape that passes
 
+  pub shape-verdict : shapeOf l ≡ verdictOf (shapeRefusals l)
+  unfolding shapeOf
+  shape-verdict = refl
+
   pub none-of : shapeOf l .number ≡ 0 → NoneApply (shapeRefusals l)
   unfolding shapeOf
   none-of e = none-applied (shapeRefusals l) shape-numbered e

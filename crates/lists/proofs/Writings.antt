@@ -6,11 +6,11 @@ use mathlib.Core.List.{List, _∷_, _++_}
 use Prim.Native.Nat.{ℕ}
 use Rattle.verdicts.specs.declared.Verdict.{Verdict}
 use Rattle.verdicts.specs.Refusals.{Refusal, refusal, eachPlace, firstOf, success, verdictOf}
-use Rattle.verdicts.proofs.First.{NoneApply, hit, miss, onward, onto, all-missed, refused-so, none-applied, none-append, numbered, numbered-append, numbered-places}
+use Rattle.verdicts.proofs.First.{NoneApply, hit, miss, onward, onto, all-missed, refused-so, none-applied, passes, none-append, numbered, numbered-append, numbered-places}
 use Rattle.lists.specs.declared.Objects.{Objects}
 use Rattle.lists.specs.declared.Writing.{Writing}
 use Rattle.lists.specs.Shape.{badCount, shapeRefusals, shapeOf}
-use Rattle.lists.specs.Writing.{wideRows, wordsOf, writeRefusals, writeRefused, writeOf}
+use Rattle.lists.specs.Writing.{wideRows, noWords, wordsOf, writeRefusals, writeRefused, writeOf}
 use Rattle.lists.specs.Making.{madeOf}
 use Rattle.lists.proofs.Shapes.{shape-numbered, none-of}
 
@@ -71,3 +71,19 @@ module _ (o : Objects) where
 
   pub written : badCount (o .count) ≡ false → madeOf o .verdict .number ≡ 0 → shapeOf (wordsOf o) .number ≡ 0 → writeOf o ≡ writtenAs o
   written e m f = write-clear (e, none-append (widePart o) (shapeRefusals (wordsOf o)) (none-wide m) (none-of (wordsOf o) f))
+
+  -- ---- the verdict of writing
+
+  pub write-verdict : writeOf o .verdict ≡ verdictOf (writeRefusals o)
+  unfolding writeOf
+  write-verdict = onto (λ (r : Writing). r .verdict) writeRefused (writeRefusals o) (writtenAs o)
+
+  pub write-passes : writeOf o .verdict .number ≡ 0 → NoneApply (writeRefusals o)
+  write-passes e = none-applied (writeRefusals o) write-numbered (sym (ap (λ (v : Verdict). v .number) write-verdict) ∙ e)
+
+  -- "A refusal returns its number, the place, and zero for all else, an empty list included"
+  pub write-empty : (writeOf o .verdict ≡ success → ⊥) → writeOf o .list ≡ noWords
+  unfolding writeOf
+  write-empty f =
+      ap (λ (r : Writing). r .list)
+      (refused-so writeRefused (writeRefusals o) (λ z. f (write-verdict ∙ passes (writeRefusals o) write-numbered z)) (writtenAs o))

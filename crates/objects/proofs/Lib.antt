@@ -4,3 +4,4 @@ pub mod Rows
 pub mod Cases
 pub mod Others
 pub mod RoundTrip
+pub mod Numbers

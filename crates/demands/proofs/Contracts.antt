@@ -1,0 +1,119 @@
+-- The contract of each public call, by name: `ShapeAnswers l r` says that the contract of `shape` allows the answer r at the list l.
+-- It is the clause of the source itself, as the prover reads it (`Post` of the arguments, the answer and the arguments at exit).
+-- Assumes nothing.
+use mathlib.Core.Bool.{Bool}
+use Prim.Native.Nat.{ℕ}
+use Rattle.verdicts.specs.declared.Verdict.{Verdict}
+use Rattle.steps.specs.declared.Mv20.{Mv20}
+use Rattle.steps.specs.declared.InMv20.{InMv20}
+use Rattle.steps.specs.declared.Mv25.{Mv25}
+use Rattle.steps.specs.declared.InMv25.{InMv25}
+use Rattle.steps.specs.declared.Mv50.{Mv50}
+use Rattle.steps.specs.declared.InMv50.{InMv50}
+use Rattle.steps.specs.declared.Mv100.{Mv100}
+use Rattle.steps.specs.declared.InMv100.{InMv100}
+use Rattle.steps.specs.declared.Ma10.{Ma10}
+use Rattle.steps.specs.declared.InMa10.{InMa10}
+use Rattle.steps.specs.declared.Ma50.{Ma50}
+use Rattle.steps.specs.declared.InMa50.{InMa50}
+use Rattle.steps.proofs.round_down.Reads as round-down
+use Rattle.steps.proofs.round_up.Reads as round-up
+use Rattle.steps.proofs.Mv20.to_mv25.Reads as mv20-to-mv25
+use Rattle.steps.proofs.Mv20.to_mv50.Reads as mv20-to-mv50
+use Rattle.steps.proofs.Mv20.to_mv100.Reads as mv20-to-mv100
+use Rattle.steps.proofs.Mv25.to_mv20.Reads as mv25-to-mv20
+use Rattle.steps.proofs.Mv25.to_mv50.Reads as mv25-to-mv50
+use Rattle.steps.proofs.Mv25.to_mv100.Reads as mv25-to-mv100
+use Rattle.steps.proofs.Mv50.to_mv20.Reads as mv50-to-mv20
+use Rattle.steps.proofs.Mv50.to_mv25.Reads as mv50-to-mv25
+use Rattle.steps.proofs.Mv50.to_mv100.Reads as mv50-to-mv100
+use Rattle.steps.proofs.Mv100.to_mv20.Reads as mv100-to-mv20
+use Rattle.steps.proofs.Mv100.to_mv25.Reads as mv100-to-mv25
+use Rattle.steps.proofs.Mv100.to_mv50.Reads as mv100-to-mv50
+use Rattle.steps.proofs.Ma10.to_ma50.Reads as ma10-to-ma50
+use Rattle.steps.proofs.Ma50.to_ma10.Reads as ma50-to-ma10
+use Rattle.objects.specs.declared.Object.{Object}
+use Rattle.objects.specs.declared.Decoded.{Decoded}
+use Rattle.objects.specs.declared.Encoded.{Encoded}
+use Rattle.objects.proofs.decode.Reads as decode
+use Rattle.objects.proofs.reserved_bit_set.Reads as reserved-bit-set
+use Rattle.objects.proofs.encode.Reads as encode
+use Rattle.lists.specs.declared.Words.{Words}
+use Rattle.lists.specs.declared.Objects.{Objects}
+use Rattle.lists.specs.declared.Reading.{Reading}
+use Rattle.lists.specs.declared.Writing.{Writing}
+use Rattle.lists.proofs.shape.Reads as shape
+use Rattle.lists.proofs.read.Reads as read
+use Rattle.lists.proofs.write.Reads as write
+
+-- ---- steps
+
+abbrev pub RoundDownAnswers : ℕ → ℕ → ℕ → Type 0
+RoundDownAnswers numerator divisor r = round-down.Post tt (numerator, (divisor, tt)) r (numerator, (divisor, tt))
+
+abbrev pub RoundUpAnswers : ℕ → ℕ → ℕ → Type 0
+RoundUpAnswers numerator divisor r = round-up.Post tt (numerator, (divisor, tt)) r (numerator, (divisor, tt))
+
+abbrev pub Mv20ToMv25Answers : Mv20 → InMv25 → Type 0
+Mv20ToMv25Answers v r = mv20-to-mv25.Post tt (v, tt) r (v, tt)
+
+abbrev pub Mv20ToMv50Answers : Mv20 → InMv50 → Type 0
+Mv20ToMv50Answers v r = mv20-to-mv50.Post tt (v, tt) r (v, tt)
+
+abbrev pub Mv20ToMv100Answers : Mv20 → InMv100 → Type 0
+Mv20ToMv100Answers v r = mv20-to-mv100.Post tt (v, tt) r (v, tt)
+
+abbrev pub Mv25ToMv20Answers : Mv25 → InMv20 → Type 0
+Mv25ToMv20Answers v r = mv25-to-mv20.Post tt (v, tt) r (v, tt)
+
+abbrev pub Mv25ToMv50Answers : Mv25 → InMv50 → Type 0
+Mv25ToMv50Answers v r = mv25-to-mv50.Post tt (v, tt) r (v, tt)
+
+abbrev pub Mv25ToMv100Answers : Mv25 → InMv100 → Type 0
+Mv25ToMv100Answers v r = mv25-to-mv100.Post tt (v, tt) r (v, tt)
+
+abbrev pub Mv50ToMv20Answers : Mv50 → InMv20 → Type 0
+Mv50ToMv20Answers v r = mv50-to-mv20.Post tt (v, tt) r (v, tt)
+
+abbrev pub Mv50ToMv25Answers : Mv50 → InMv25 → Type 0
+Mv50ToMv25Answers v r = mv50-to-mv25.Post tt (v, tt) r (v, tt)
+
+abbrev pub Mv50ToMv100Answers : Mv50 → InMv100 → Type 0
+Mv50ToMv100Answers v r = mv50-to-mv100.Post tt (v, tt) r (v, tt)
+
+abbrev pub Mv100ToMv20Answers : Mv100 → InMv20 → Type 0
+Mv100ToMv20Answers v r = mv100-to-mv20.Post tt (v, tt) r (v, tt)
+
+abbrev pub Mv100ToMv25Answers : Mv100 → InMv25 → Type 0
+Mv100ToMv25Answers v r = mv100-to-mv25.Post tt (v, tt) r (v, tt)
+
+abbrev pub Mv100ToMv50Answers : Mv100 → InMv50 → Type 0
+Mv100ToMv50Answers v r = mv100-to-mv50.Post tt (v, tt) r (v, tt)
+
+abbrev pub Ma10ToMa50Answers : Ma10 → InMa50 → Type 0
+Ma10ToMa50Answers v r = ma10-to-ma50.Post tt (v, tt) r (v, tt)
+
+abbrev pub Ma50ToMa10Answers : Ma50 → InMa10 → Type 0
+Ma50ToMa10Answers v r = ma50-to-ma10.Post tt (v, tt) r (v, tt)
+
+-- ---- objects
+
+abbrev pub DecodeAnswers : ℕ → Decoded → Type 0
+DecodeAnswers w r = decode.Post tt (w, tt) r (w, tt)
+
+abbrev pub ReservedAnswers : Object → Bool → ℕ → Bool → Type 0
+ReservedAnswers o first w r = reserved-bit-set.Post tt (o, (first, (w, tt))) r (o, (first, (w, tt)))
+
+abbrev pub EncodeAnswers : Object → Encoded → Type 0
+EncodeAnswers o r = encode.Post tt (o, tt) r (o, tt)
+
+-- ---- lists
+
+abbrev pub ShapeAnswers : Words → Verdict → Type 0
+ShapeAnswers l r = shape.Post tt (l, tt) r (l, tt)
+
+abbrev pub ReadAnswers : Words → Reading → Type 0
+ReadAnswers l r = read.Post tt (l, tt) r (l, tt)
+
+abbrev pub WriteAnswers : Objects → Writing → Type 0
+WriteAnswers o r = write.Post tt (o, tt) r (o, tt)

@@ -1,0 +1,69 @@
+-- Demand 1, refusals: for each call, number n with its place is given exactly when refusal n applies there and none before it in
+-- the order does; on a refusal everything else is zero. The tables of rows are in specs/ of `lists`, in 01's order.
+-- Assumes nothing.
+use mathlib.Core.Path.{_≡_, refl, sym, ap, _∙_, subst}
+use mathlib.Core.Bool.{Bool, true, false}
+use mathlib.Core.List.{List}
+use mathlib.Core.Logic.{_↔_, _⊎_, inl, inr, ⊎-elim}
+use Prim.Native.Nat.{ℕ, zero, suc, _<_}
+use native.Mathlib.Omega.{arith}
+use Rattle.verdicts.specs.declared.Verdict.{Verdict}
+use Rattle.verdicts.specs.Refusals.{Refusal, verdict, success, verdictOf}
+use Rattle.verdicts.proofs.First.{NoneApply, First, Exactly, exactly}
+use Rattle.objects.specs.declared.Object.{Object}
+use Rattle.objects.specs.declared.Decoded.{Decoded}
+use Rattle.objects.specs.declared.Encoded.{Encoded}
+use Rattle.objects.specs.Bits.{bits}
+use Rattle.objects.specs.Layout.{allFit}
+use Rattle.objects.specs.Decode.{decodedNumber}
+use Rattle.objects.specs.Encode.{fieldsOf, encodedNumber}
+use Rattle.objects.proofs.Numbers.{decode-refuses, encode-refuses}
+use Rattle.lists.specs.declared.Words.{Words}
+use Rattle.lists.specs.declared.Objects.{Objects}
+use Rattle.lists.specs.declared.Reading.{Reading}
+use Rattle.lists.specs.declared.Writing.{Writing}
+use Rattle.lists.specs.Shape.{shapeRefusals, shapeOf}
+use Rattle.lists.specs.Reading.{noObjects}
+use Rattle.lists.specs.Writing.{noWords, writeRefusals}
+use Rattle.lists.proofs.Shapes.{shape-numbered, shape-verdict}
+use Rattle.lists.proofs.Readings.{read-verdict, read-empty}
+use Rattle.lists.proofs.Writings.{write-numbered, write-verdict, write-empty}
+use Rattle.demands.proofs.Contracts.{DecodeAnswers, EncodeAnswers, ShapeAnswers, ReadAnswers, WriteAnswers}
+
+-- ---- one word
+
+-- 12 exactly for the kinds 1101b and 1111b
+pub decode-12 : (w : ℕ) (r : Decoded) → DecodeAnswers w r
+    → decodedNumber r ≡ 12 ↔ ((bits w 31 30 ≡ 3) × ((bits w 29 28 ≡ 1) ⊎ (bits w 29 28 ≡ 3)))
+decode-12 w r e = subst (λ (d : Decoded). decodedNumber d ≡ 12 ↔ ((bits w 31 30 ≡ 3) × ((bits w 29 28 ≡ 1) ⊎ (bits w 29 28 ≡ 3)))) (sym e) (decode-refuses w)
+
+-- 7 exactly where a field is too wide for its bits
+pub encode-7 : (o : Object) (r : Encoded) → EncodeAnswers o r → encodedNumber r ≡ 7 ↔ (allFit (fieldsOf o) ≡ false)
+encode-7 o r e = subst (λ (d : Encoded). encodedNumber d ≡ 7 ↔ (allFit (fieldsOf o) ≡ false)) (sym e) (encode-refuses o)
+
+-- ---- a list
+
+-- a verdict answers a table: success exactly when no row applies, and a row's number and place exactly when it is the first that applies
+abbrev pub Answers : Verdict → List Refusal → Type 0
+Answers v rs = (v ≡ success ↔ NoneApply rs) × ((n p : ℕ) → (n ≡ 0 → ⊥) → v ≡ verdict n p ↔ First rs n p)
+
+answers : (v : Verdict) (rs : List Refusal) → (Exactly rs) → v ≡ verdictOf rs → Answers v rs
+answers v rs x e = subst (λ (u : Verdict). Answers u rs) (sym e) (x .succeeds, x .refuses)
+
+pub shape-refusals : (l : Words) (r : Verdict) → ShapeAnswers l r → Answers r (shapeRefusals l)
+shape-refusals l r e = answers r (shapeRefusals l) (exactly (shapeRefusals l) (shape-numbered l)) (e ∙ shape-verdict l)
+
+-- reading refuses as the shape check does, and gives an empty list with it
+pub read-refusals : (l : Words) (r : Reading) → ReadAnswers l r
+    → Answers (r .verdict) (shapeRefusals l) × ((r .verdict ≡ success → ⊥) → r .list ≡ noObjects)
+read-refusals l r e = (
+  answers (r .verdict) (shapeRefusals l) (exactly (shapeRefusals l) (shape-numbered l)) (ap (λ (x : Reading). x .verdict) e ∙ read-verdict l ∙ shape-verdict l),
+  λ f. ap (λ (x : Reading). x .list) e ∙ read-empty l (λ z. f (ap (λ (x : Reading). x .verdict) e ∙ z)),
+)
+
+pub write-refusals : (o : Objects) (r : Writing) → WriteAnswers o r
+    → Answers (r .verdict) (writeRefusals o) × ((r .verdict ≡ success → ⊥) → r .list ≡ noWords)
+write-refusals o r e = (
+  answers (r .verdict) (writeRefusals o) (exactly (writeRefusals o) (write-numbered o)) (ap (λ (x : Writing). x .verdict) e ∙ write-verdict o),
+  λ f. ap (λ (x : Writing). x .list) e ∙ write-empty o (λ z. f (ap (λ (x : Writing). x .verdict) e ∙ z)),
+)
