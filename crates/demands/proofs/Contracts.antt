@@ -41,7 +41,7 @@ use Rattle.objects.proofs.encode.Reads as encode
 use Rattle.lists.specs.declared.Words.{Words}
 use Rattle.lists.specs.declared.Objects.{Objects}
 use Rattle.lists.specs.declared.Reading.{Reading}
-use Rattle.lists.specs.declared.Writing.{Writing}
+use Rattle.lists.specs.declared.Listing.{Listing}
 use Rattle.lists.proofs.shape.Reads as shape
 use Rattle.lists.proofs.read.Reads as read
 use Rattle.lists.proofs.write.Reads as write
@@ -115,5 +115,5 @@ ShapeAnswers l r = shape.Post tt (l, tt) r (l, tt)
 abbrev pub ReadAnswers : Words → Reading → Type 0
 ReadAnswers l r = read.Post tt (l, tt) r (l, tt)
 
-abbrev pub WriteAnswers : Objects → Writing → Type 0
+abbrev pub WriteAnswers : Objects → Listing → Type 0
 WriteAnswers o r = write.Post tt (o, tt) r (o, tt)

@@ -21,7 +21,7 @@ use Rattle.objects.proofs.Numbers.{decode-refuses, encode-refuses}
 use Rattle.lists.specs.declared.Words.{Words}
 use Rattle.lists.specs.declared.Objects.{Objects}
 use Rattle.lists.specs.declared.Reading.{Reading}
-use Rattle.lists.specs.declared.Writing.{Writing}
+use Rattle.lists.specs.declared.Listing.{Listing}
 use Rattle.lists.specs.Shape.{shapeRefusals, shapeOf}
 use Rattle.lists.specs.Reading.{noObjects}
 use Rattle.lists.specs.Writing.{noWords, writeRefusals}
@@ -61,9 +61,9 @@ read-refusals l r e = (
   λ f. ap (λ (x : Reading). x .list) e ∙ read-empty l (λ z. f (ap (λ (x : Reading). x .verdict) e ∙ z)),
 )
 
-pub write-refusals : (o : Objects) (r : Writing) → WriteAnswers o r
+pub write-refusals : (o : Objects) (r : Listing) → WriteAnswers o r
     → Answers (r .verdict) (writeRefusals o) × ((r .verdict ≡ success → ⊥) → r .list ≡ noWords)
 write-refusals o r e = (
-  answers (r .verdict) (writeRefusals o) (exactly (writeRefusals o) (write-numbered o)) (ap (λ (x : Writing). x .verdict) e ∙ write-verdict o),
-  λ f. ap (λ (x : Writing). x .list) e ∙ write-empty o (λ z. f (ap (λ (x : Writing). x .verdict) e ∙ z)),
+  answers (r .verdict) (writeRefusals o) (exactly (writeRefusals o) (write-numbered o)) (ap (λ (x : Listing). x .verdict) e ∙ write-verdict o),
+  λ f. ap (λ (x : Listing). x .list) e ∙ write-empty o (λ z. f (ap (λ (x : Listing). x .verdict) e ∙ z)),
 )

@@ -15,7 +15,7 @@ use Rattle.objects.proofs.RoundTrip as one-word
 use Rattle.lists.specs.declared.Words.{Words}
 use Rattle.lists.specs.declared.Objects.{Objects}
 use Rattle.lists.specs.declared.Reading.{Reading}
-use Rattle.lists.specs.declared.Writing.{Writing}
+use Rattle.lists.specs.declared.Listing.{Listing}
 use Rattle.lists.specs.Kept.{keptWords, keptObjects}
 use Rattle.lists.specs.Shape.{shapeOf}
 use Rattle.lists.specs.Reading.{objectsOf, readOf}
@@ -41,7 +41,7 @@ encode-then-decode o w e d q = q ∙ one-word.encode-decode o w (sym e)
 
 -- a list whose shape passes reads and writes back to the same words, zero past the count
 pub read-then-write : (l : Words) → whole-list.Words32 l → ShapeAnswers l success
-    → (r : Reading) → ReadAnswers l r → (w : Writing) → WriteAnswers (r .list) w
+    → (r : Reading) → ReadAnswers l r → (w : Listing) → WriteAnswers (r .list) w
     → (r .verdict ≡ success) × (w ≡ record { verdict = success; list = keptWords l })
 read-then-write l typed s r e w f =
     let n : shapeOf l .number ≡ 0 = ap (λ (v : Verdict). v .number) (sym s) in
@@ -49,8 +49,8 @@ read-then-write l typed s r e w f =
     (ap (λ (x : Reading). x .verdict) p, f ∙ ap (λ (x : Reading). writeOf (x .list)) p ∙ whole-list.read-write l typed (none-of l n))
 
 -- a list that is written reads back to the same objects, zero past the count
-pub write-then-read : (o : Objects) (w : Writing) → WriteAnswers o w → w .verdict ≡ success
+pub write-then-read : (o : Objects) (w : Listing) → WriteAnswers o w → w .verdict ≡ success
     → (r : Reading) → ReadAnswers (w .list) r → r ≡ record { verdict = success; list = keptObjects o }
 write-then-read o w e s r f =
-    let x = write-passes o (ap (λ (v : Verdict). v .number) (sym (ap (λ (y : Writing). y .verdict) e) ∙ s)) in
-    f ∙ ap (λ (y : Writing). readOf (y .list)) (e ∙ write-clear o x) ∙ whole-list.write-read o x
+    let x = write-passes o (ap (λ (v : Verdict). v .number) (sym (ap (λ (y : Listing). y .verdict) e) ∙ s)) in
+    f ∙ ap (λ (y : Listing). readOf (y .list)) (e ∙ write-clear o x) ∙ whole-list.write-read o x

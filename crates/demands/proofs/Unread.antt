@@ -5,7 +5,7 @@ use Rattle.verdicts.specs.declared.Verdict.{Verdict}
 use Rattle.lists.specs.declared.Words.{Words}
 use Rattle.lists.specs.declared.Objects.{Objects}
 use Rattle.lists.specs.declared.Reading.{Reading}
-use Rattle.lists.specs.declared.Writing.{Writing}
+use Rattle.lists.specs.declared.Listing.{Listing}
 use Rattle.lists.proofs.Unread.{AgreeWords, AgreeObjects, shape-unread, read-unread, write-unread}
 use Rattle.demands.proofs.Contracts.{ShapeAnswers, ReadAnswers, WriteAnswers}
 
@@ -15,5 +15,5 @@ shape-does-not-look l m a r s e f = e ∙ shape-unread l m a ∙ sym f
 pub read-does-not-look : (l m : Words) → AgreeWords l m → (r s : Reading) → ReadAnswers l r → ReadAnswers m s → r ≡ s
 read-does-not-look l m a r s e f = e ∙ read-unread l m a ∙ sym f
 
-pub write-does-not-look : (o q : Objects) → AgreeObjects o q → (r s : Writing) → WriteAnswers o r → WriteAnswers q s → r ≡ s
+pub write-does-not-look : (o q : Objects) → AgreeObjects o q → (r s : Listing) → WriteAnswers o r → WriteAnswers q s → r ≡ s
 write-does-not-look o q a r s e f = e ∙ write-unread o q a ∙ sym f

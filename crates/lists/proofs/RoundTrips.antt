@@ -23,7 +23,7 @@ use Rattle.lists.specs.declared.Words.{Words}
 use Rattle.lists.specs.declared.Place.{Place}
 use Rattle.lists.specs.declared.Objects.{Objects}
 use Rattle.lists.specs.declared.Reading.{Reading}
-use Rattle.lists.specs.declared.Writing.{Writing}
+use Rattle.lists.specs.declared.Listing.{Listing}
 use Rattle.lists.specs.Shape.{wordRows, shapeRefusals, shapeOf}
 use Rattle.lists.specs.Seven.{sevenTo}
 use Rattle.lists.specs.Reading.{emptyPlace, objectOf, placeOf, objectsOf, readOf}
@@ -83,7 +83,7 @@ module _ (l : Words) (typed : Words32 l) (x : NoneApply (shapeRefusals l)) where
       )
       ∙ ap written words-back
     where
-      written : Words → Writing
+      written : Words → Listing
       written m = record { verdict = success; list = m }
 
 -- ---- objects, words, objects

@@ -22,7 +22,7 @@ use Rattle.lists.specs.declared.Words.{Words}
 use Rattle.lists.specs.declared.Place.{Place}
 use Rattle.lists.specs.declared.Objects.{Objects}
 use Rattle.lists.specs.declared.Reading.{Reading}
-use Rattle.lists.specs.declared.Writing.{Writing}
+use Rattle.lists.specs.declared.Listing.{Listing}
 use Rattle.lists.specs.Shape.{badCount, isFixed5V, wordRefusals, wordRows, fixedWith, hasFixed, avsMatches, avsDiffers, avsRows, shapeRefusals, shapeOf}
 use Rattle.lists.specs.Seven.{sevenTo}
 use Rattle.lists.specs.Reading.{emptyPlace, objectOf, placeOf, objectsOf, readRefused, readOf}
@@ -131,5 +131,5 @@ module _ (o q : Objects) (a : AgreeObjects o q) where
       (same-made (o .places) (q .places) (o .count) (a .places))
       ∙ ap (λ (n : ℕ). writeOf (holding (q .places) n)) (a .count)
     where
-      answer : List Refusal → Words → Writing
+      answer : List Refusal → Words → Listing
       answer rs l = firstOf writeRefused (refusal (badCount (o .count)) 10 0 ∷ (rs ++ shapeRefusals l)) (record { verdict = success; list = l })

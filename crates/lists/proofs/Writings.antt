@@ -8,13 +8,13 @@ use Rattle.verdicts.specs.declared.Verdict.{Verdict}
 use Rattle.verdicts.specs.Refusals.{Refusal, refusal, eachPlace, firstOf, success, verdictOf}
 use Rattle.verdicts.proofs.First.{NoneApply, hit, miss, onward, onto, all-missed, refused-so, none-applied, passes, none-append, numbered, numbered-append, numbered-places}
 use Rattle.lists.specs.declared.Objects.{Objects}
-use Rattle.lists.specs.declared.Writing.{Writing}
+use Rattle.lists.specs.declared.Listing.{Listing}
 use Rattle.lists.specs.Shape.{badCount, shapeRefusals, shapeOf}
 use Rattle.lists.specs.Writing.{wideRows, noWords, wordsOf, writeRefusals, writeRefused, writeOf}
 use Rattle.lists.specs.Making.{madeOf}
 use Rattle.lists.proofs.Shapes.{shape-numbered, none-of}
 
-abbrev pub writtenAs : Objects → Writing
+abbrev pub writtenAs : Objects → Listing
 writtenAs o = record { verdict = success; list = wordsOf o }
 
 abbrev widePart : Objects → List Refusal
@@ -42,7 +42,7 @@ module _ (o : Objects) where
 
   made-verdict : madeOf o .verdict ≡ verdictOf (widePart o)
   unfolding madeOf
-  made-verdict = onto (λ (r : Writing). r .verdict) writeRefused (widePart o) (writtenAs o)
+  made-verdict = onto (λ (r : Listing). r .verdict) writeRefused (widePart o) (writtenAs o)
 
   pub wide : badCount (o .count) ≡ false → (madeOf o .verdict .number ≡ 0 → ⊥) → madeOf o ≡ writeOf o
   unfolding madeOf
@@ -76,7 +76,7 @@ module _ (o : Objects) where
 
   pub write-verdict : writeOf o .verdict ≡ verdictOf (writeRefusals o)
   unfolding writeOf
-  write-verdict = onto (λ (r : Writing). r .verdict) writeRefused (writeRefusals o) (writtenAs o)
+  write-verdict = onto (λ (r : Listing). r .verdict) writeRefused (writeRefusals o) (writtenAs o)
 
   pub write-passes : writeOf o .verdict .number ≡ 0 → NoneApply (writeRefusals o)
   write-passes e = none-applied (writeRefusals o) write-numbered (sym (ap (λ (v : Verdict). v .number) write-verdict) ∙ e)
@@ -85,5 +85,5 @@ module _ (o : Objects) where
   pub write-empty : (writeOf o .verdict ≡ success → ⊥) → writeOf o .list ≡ noWords
   unfolding writeOf
   write-empty f =
-      ap (λ (r : Writing). r .list)
+      ap (λ (r : Listing). r .list)
       (refused-so writeRefused (writeRefusals o) (λ z. f (write-verdict ∙ passes (writeRefusals o) write-numbered z)) (writtenAs o))

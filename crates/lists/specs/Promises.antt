@@ -5,7 +5,7 @@ use Rattle.verdicts.specs.declared.Verdict.{Verdict}
 use Rattle.lists.specs.declared.Words.{Words}
 use Rattle.lists.specs.declared.Objects.{Objects}
 use Rattle.lists.specs.declared.Reading.{Reading}
-use Rattle.lists.specs.declared.Writing.{Writing}
+use Rattle.lists.specs.declared.Listing.{Listing}
 use Rattle.lists.specs.Shape.{shapeOf}
 use Rattle.lists.specs.Reading.{readOf}
 use Rattle.lists.specs.Writing.{writeOf}
@@ -16,5 +16,5 @@ Shapes l r = r ≡ shapeOf l
 abbrev pub Reads : Words → Reading → Type 0
 Reads l r = r ≡ readOf l
 
-abbrev pub Writes : Objects → Writing → Type 0
+abbrev pub Writes : Objects → Listing → Type 0
 Writes o r = r ≡ writeOf o

@@ -11,7 +11,7 @@ use Rattle.objects.specs.Encode.{encodeOf, encodedNumber}
 use Rattle.lists.specs.declared.Words.{Words}
 use Rattle.lists.specs.declared.Place.{Place}
 use Rattle.lists.specs.declared.Objects.{Objects}
-use Rattle.lists.specs.declared.Writing.{Writing}
+use Rattle.lists.specs.declared.Listing.{Listing}
 use Rattle.lists.specs.Shape.{badCount, shapeRefusals}
 use Rattle.lists.specs.Seven.{sevenTo}
 use Rattle.lists.specs.Reading.{emptyPlace}
@@ -40,8 +40,8 @@ abbrev pub writeRefusals : Objects → List Refusal
 writeRefusals o =
     refusal (badCount (o .count)) 10 0 ∷ (eachPlace (wideRows (o .places)) (o .count) ++ shapeRefusals (wordsOf o))
 
-abbrev pub writeRefused : ℕ → ℕ → Writing
+abbrev pub writeRefused : ℕ → ℕ → Listing
 writeRefused n p = record { verdict = verdict n p; list = noWords }
 
-unfoldable pub writeOf : Objects → Writing
+unfoldable pub writeOf : Objects → Listing
 writeOf o = firstOf writeRefused (writeRefusals o) (record { verdict = success; list = wordsOf o })

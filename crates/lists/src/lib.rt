@@ -37,9 +37,9 @@ pub struct Reading {
     pub list: Objects,
 }
 
-// What writing gives: on a refusal the list is empty and all zero.
+// A list of words with its verdict: on a refusal the list is empty and all zero.
 #[repr(C)]
-pub struct Writing {
+pub struct Listing {
     pub verdict: Verdict,
     pub list: Words,
 }

@@ -4,26 +4,26 @@ ghost use Prim.Native.Nat.{_≤_};
 ghost use Rattle.lists.specs.Making.{madeOf};
 ghost use Rattle.lists.specs.Writing.{writeRefused};
 ghost use Rattle.lists.specs.Promises.{Writes};
+use crate::Listing;
 use crate::Objects;
 use crate::Words;
-use crate::Writing;
 use crate::shape_check::shape;
 use objects::Encoded;
 use verdicts::Verdict;
 
 // A refusal: the list is empty and all zero.
-fn refuse(number: u8, place: u8) -> Writing
+fn refuse(number: u8, place: u8) -> Listing
     ensures { λ r. ⌜ r ≡ writeRefused number place ⌝ }
 {
     let words = [0u32; 7];
-    Writing {
+    Listing {
         verdict: Verdict { number, place },
         list: Words { words, count: 0 },
     }
 }
 
 // The word of each object, until one has a field too wide.
-fn encode_places(list: Objects) -> Writing
+fn encode_places(list: Objects) -> Listing
     requires { ⌜ list .count ≤ 7 ⌝ }
     ensures { λ r. ⌜ r ≡ madeOf list ⌝ }
 {
@@ -41,7 +41,7 @@ fn encode_places(list: Objects) -> Writing
         words[at] = w;
         i += 1;
     }
-    Writing {
+    Listing {
         verdict: Verdict {
             number: verdicts::SUCCESS,
             place: 0,
@@ -51,7 +51,7 @@ fn encode_places(list: Objects) -> Writing
 }
 
 // The words of objects whose fields fit, if the words make a list.
-pub fn write(list: Objects) -> Writing
+pub fn write(list: Objects) -> Listing
     ensures { λ r. ⌜ Writes list r ⌝ }
 {
     let count = list.count;

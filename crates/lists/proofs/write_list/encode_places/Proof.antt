@@ -12,14 +12,14 @@ use Rattle.verdicts.proofs.First.{NoneApply, hit, none-yet, none-more, all-miss
 use Rattle.objects.specs.declared.Encoded.{Encoded}
 use Rattle.objects.specs.Encode.{encodedNumber}
 use Rattle.lists.specs.Seven.{sevenTo}
-use Rattle.lists.specs.declared.Writing.{Writing}
+use Rattle.lists.specs.declared.Listing.{Listing}
 use Rattle.lists.specs.Writing.{encodedAt, wideRows, wordIn, wordsOf, writeRefused}
 use Rattle.lists.specs.Making.{madeOf}
 use Rattle.lists.proofs.Sevens.{none-filled, one-filled}
 use Rattle.lists.proofs.write_list.encode_places.Statement.{statement}
 use Rattle.lists.proofs.write_list.encode_places.Tie as tie
 
-abbrev made : List ℕ → ℕ → Writing
+abbrev made : List ℕ → ℕ → Listing
 made ws n = record { verdict = success; list = record { words = ws; count = n } }
 
 abbrev Inv-loop : tie.InvT-loop
@@ -66,7 +66,7 @@ returns c =
     let e = ap (λ (x : Encoded). eqb (encodedNumber x) 7) (sym (c .before .before .before .encode .ensures) ∙ c .before .enum-told .given .1) in
     c .refuse .ensures
     ∙ sym (decided (wideRows (l .places)) writeRefused (at .i) (l .count) _ (c .before .before .before .before .before .loop-test .taken) (at .inv .1)
-    (λ (x : Writing). hit writeRefused x 7 (at .i + 1) [] e) _)
+    (λ (x : Listing). hit writeRefused x 7 (at .i + 1) [] e) _)
 
 mul-words : tie.Need-mul-words Inv-loop μ-loop
 mul-words c = search needs

@@ -5,7 +5,7 @@ use mathlib.Core.Bool.{true, false}
 use Prim.Native.Nat.{ℕ}
 use Rattle.verdicts.specs.declared.Verdict.{Verdict}
 use Rattle.lists.specs.declared.Words.{Words}
-use Rattle.lists.specs.declared.Writing.{Writing}
+use Rattle.lists.specs.declared.Listing.{Listing}
 use Rattle.lists.specs.Shape.{badCount, shapeOf}
 use Rattle.lists.specs.Writing.{wordsOf, writeRefused}
 use Rattle.lists.specs.Making.{madeOf}
@@ -15,7 +15,7 @@ use borrow.Author.Needs.{needs}
 use Rattle.lists.proofs.write_list.write.Statement.{statement}
 use Rattle.lists.proofs.write_list.write.Tie as tie
 
-abbrev number : Writing → ℕ
+abbrev number : Listing → ℕ
 number w = w .verdict .number
 
 -- past the objects, none of which is too wide
@@ -29,7 +29,7 @@ fitting c = sym (ap number (c .before .before .before .encode-places .ensures)) 
 shaped : (c : tie.After-shape) → c .shape .result ≡ shapeOf (wordsOf (c .before .before .before .before .before .before .before .before .args .list))
 shaped c =
     c .shape .ensures
-    ∙ ap (λ (w : Writing). shapeOf (w .list)) (c .before .before .before .before .before .encode-places .ensures ∙ made-is _ (fitting (c .before .before)))
+    ∙ ap (λ (w : Listing). shapeOf (w .list)) (c .before .before .before .before .before .encode-places .ensures ∙ made-is _ (fitting (c .before .before)))
 
 refuse-requires : tie.Need-refuse-requires
 refuse-requires c κs = search needs
