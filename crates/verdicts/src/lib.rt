@@ -10,6 +10,19 @@ pub struct Verdict {
 
 pub const SUCCESS: u8 = 0;
 
+// A profile.
+pub const PORT_MAXIMUM: u8 = 1;
+
+pub const PRESENT_POWER: u8 = 2;
+
+pub const CABLE: u8 = 3;
+
+pub const NOT_A_CHOICE: u8 = 4;
+
+pub const FLAGS: u8 = 5;
+
+pub const PPS_BELOW_MAXIMUM: u8 = 6;
+
 // Writing an object.
 pub const FIELD_TOO_WIDE: u8 = 7;
 
@@ -29,3 +42,8 @@ pub const VOLTAGE_BOUND: u8 = 15;
 pub const POWER_OVER_100_W: u8 = 16;
 
 pub const AVS_DIFFERS: u8 = 17;
+
+// A list against its profile.
+pub const WRONG_SET: u8 = 18;
+
+pub const CURRENT_NOT_ALLOWED: u8 = 19;

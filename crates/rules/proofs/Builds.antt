@@ -1,0 +1,70 @@
+-- The cases of the builder.
+-- Assumes nothing.
+use mathlib.Core.Path.{_≡_, refl, sym, ap, ap₂, _∙_}
+use mathlib.Core.Bool.{Bool, true, false, cond}
+use mathlib.Core.List.{List, [], _∷_, _++_}
+use Prim.Native.Nat.{ℕ, _≤_}
+use native.Mathlib.Omega.{arith}
+use lib.Dec.{eqb}
+use lib.ListN.{length}
+use Rattle.verdicts.specs.declared.Verdict.{Verdict}
+use Rattle.verdicts.specs.Refusals.{Refusal, refusal, firstOf, verdict, success, verdictOf}
+use Rattle.verdicts.proofs.First.{NoneApply, hit, onward, onto, all-missed, refused-so, none-append, numbered, numbered-append, passes}
+use Rattle.lists.specs.declared.Listing.{Listing}
+use Rattle.lists.specs.Writing.{noWords, writeRefused}
+use Rattle.rules.specs.declared.Profile.{Profile}
+use Rattle.rules.specs.declared.Plan.{Plan}
+use Rattle.rules.specs.Profiles.{ppsBelowMaximum, profileRefusals, buildRefusals}
+use Rattle.rules.specs.Plans.{baseSlots, slots, planOf}
+use Rattle.rules.specs.Building.{builtCount, builtWords, builtOf}
+use Rattle.rules.proofs.PlanFacts.{at-most-seven, base-within, count-is, base-is}
+
+abbrev pub builtAs : Profile → Listing
+builtAs p = record { verdict = success; list = builtWords p }
+
+module _ (p : Profile) where
+  pub build-numbered : numbered (buildRefusals p) ≡ true
+  build-numbered = refl
+
+  pub build-refused : (verdictOf (profileRefusals p) .number ≡ 0 → ⊥)
+      → builtOf p ≡ writeRefused (verdictOf (profileRefusals p) .number) (verdictOf (profileRefusals p) .place)
+  unfolding builtOf
+  build-refused f =
+      onward writeRefused (builtAs p) (profileRefusals p) (refusal (ppsBelowMaximum p) 6 0 ∷ []) ∙ refused-so writeRefused (profileRefusals p) f _
+
+  pub build-6 : NoneApply (profileRefusals p) → ppsBelowMaximum p ≡ true → builtOf p ≡ writeRefused 6 0
+  unfolding builtOf
+  build-6 x e =
+      onward writeRefused (builtAs p) (profileRefusals p) (refusal (ppsBelowMaximum p) 6 0 ∷ [])
+      ∙ all-missed writeRefused _ (profileRefusals p) x
+      ∙ hit writeRefused (builtAs p) 6 0 [] e
+
+  pub build-clear : NoneApply (buildRefusals p) → builtOf p ≡ builtAs p
+  unfolding builtOf
+  build-clear x = all-missed writeRefused (builtAs p) (buildRefusals p) x
+
+  pub build-done : NoneApply (profileRefusals p) → ppsBelowMaximum p ≡ false → builtOf p ≡ builtAs p
+  build-done x e = build-clear (none-append (profileRefusals p) (refusal (ppsBelowMaximum p) 6 0 ∷ []) x (e, tt))
+
+  -- ---- the verdict of the builder
+
+  pub build-verdict : builtOf p .verdict ≡ verdictOf (buildRefusals p)
+  unfolding builtOf
+  build-verdict = onto (λ (l : Listing). l .verdict) writeRefused (buildRefusals p) (builtAs p)
+
+  pub build-empty : (builtOf p .verdict ≡ success → ⊥) → builtOf p .list ≡ noWords
+  unfolding builtOf
+  build-empty f =
+      ap (λ (l : Listing). l .list)
+      (refused-so writeRefused (buildRefusals p) (λ z. f (build-verdict ∙ passes (buildRefusals p) build-numbered z)) (builtAs p))
+
+  -- ---- the count
+
+  pub count-by-plan : (plan : Plan) → plan ≡ planOf (p .max .0) → cond (eqb (p .pps) 1) (plan .count) (plan .base) ≡ builtCount p
+  count-by-plan plan e = ap₂ (cond (eqb (p .pps) 1)) (count-is (p .max .0) plan e) (base-is (p .max .0) plan e)
+
+  pub built-count-high : p .max .0 ≤ 200 → builtCount p ≤ 7
+  built-count-high h = go (eqb (p .pps) 1) where
+    go : (b : Bool) → cond b (length (slots (p .max .0))) (length (baseSlots (p .max .0))) ≤ 7
+    go true = at-most-seven (p .max .0) h
+    go false = omega (arith, at-most-seven (p .max .0) h, base-within (p .max .0))

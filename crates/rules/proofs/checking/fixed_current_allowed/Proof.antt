@@ -1,0 +1,24 @@
+-- `rules::checking::fixed_current_allowed` meets its contract: of an object of another kind it says nothing.
+-- Assumes nothing.
+use mathlib.Core.Path.{_≡_, refl, ap, ap₂, sym, _∙_}
+use Rattle.rules.specs.Checking.{fixedCurrentAllowed}
+use Rattle.rules.proofs.OtherKinds.{fixed-current-only}
+use borrow.Author.Needs.{needs}
+use Rattle.rules.proofs.checking.fixed_current_allowed.Statement.{statement}
+use Rattle.rules.proofs.checking.fixed_current_allowed.Tie as tie
+
+enum-known-o : tie.Need-enum-known-o
+enum-known-o c = search needs
+
+returns : tie.Need-returns
+returns c = sym (fixed-current-only (c .before .args .p) (c .before .args .volts) (c .before .args .o) (c .match .keys2))
+
+fixed-allowed-requires : tie.Need-fixed-allowed-requires
+fixed-allowed-requires c κs = search needs
+
+returns-2 : tie.Need-returns-2
+returns-2 c = c .fixed-allowed .ensures ∙ ap (fixedCurrentAllowed (c .before .before .before .before .args .p) (c .before .before .before .before .args .volts)) (sym (c .before .before .o .given .1))
+
+pub fixed-current-allowed-spec : {M : Type 1} → statement M
+fixed-current-allowed-spec =
+    tie.close (tie.spec enum-known-o returns fixed-allowed-requires returns-2)

@@ -1,0 +1,26 @@
+-- `rules::profiles::judge_profile` meets its contract: every refusal of a profile has place 0.
+-- Assumes nothing.
+use mathlib.Core.Path.{_≡_, refl, ap, ap₂, sym, _∙_}
+use mathlib.Core.Bool.{Bool, true, false, not, _&&_, _||_, cond}
+use borrow.Author.Tests.{lt-ltb, le-ltb, le-leb, lt-leb, eq-eqb, ne-eqb}
+use Prim.Native.Nat.{ℕ, _*_, _≤_, _<_, min}
+use native.Mathlib.Omega.{arith}
+use lib.Dec.{leb, ltb, eqb}
+use mathlib.Core.List.{List, [], _∷_}
+use Rattle.verdicts.specs.declared.Verdict.{Verdict}
+use Rattle.verdicts.specs.Refusals.{Refusal, verdict, success, verdictOf}
+use Rattle.verdicts.proofs.First.{hit, miss}
+use Rattle.rules.specs.Profiles.{profileRefusals}
+use Rattle.rules.proofs.ProfileCases.{place-0}
+use borrow.Author.Needs.{needs}
+use Rattle.rules.proofs.profiles.judge_profile.Statement.{statement}
+use Rattle.rules.proofs.profiles.judge_profile.Tie as tie
+
+profile-fault-requires : tie.Need-profile-fault-requires
+profile-fault-requires c κs = search needs
+
+returns : tie.Need-returns
+returns c = ap (λ (n : ℕ). verdict n 0) (c .profile-fault .ensures) ∙ ap (verdict _) (sym (place-0 (c .before .args .p)))
+
+pub judge-profile-spec : {M : Type 1} → statement M
+judge-profile-spec = tie.close (tie.spec profile-fault-requires returns)

@@ -1,0 +1,61 @@
+-- The list that is built for a profile (01, "Power rules").
+-- Assumes nothing.
+use mathlib.Core.Bool.{Bool, true, false, cond}
+use mathlib.Core.List.{List}
+use Prim.Native.Nat.{ℕ, _*_, _≤_}
+use lib.Dec.{eqb}
+use lib.ListN.{getD, length}
+use Rattle.verdicts.specs.Refusals.{firstOf, success}
+use Rattle.objects.specs.declared.Object.{Object}
+use Rattle.objects.specs.declared.Object.the-variants as object
+use Rattle.objects.specs.Encode.{encodeOf}
+use Rattle.lists.specs.declared.Words.{Words}
+use Rattle.lists.specs.declared.Listing.{Listing}
+use Rattle.lists.specs.Seven.{sevenTo}
+use Rattle.lists.specs.Reading.{zeroObject}
+use Rattle.lists.specs.Writing.{wordIn, writeRefused}
+use Rattle.rules.specs.declared.Profile.{Profile}
+use Rattle.rules.specs.declared.Slot.{Slot}
+use Rattle.rules.specs.declared.Slot.the-variants.{Nothing, Fixed, Avs, Prog}
+use Rattle.rules.specs.Profiles.{buildRefusals}
+use Rattle.rules.specs.Plans.{baseSlots, slots}
+use Rattle.rules.specs.Currents.{builtCurrent, progCurrent}
+
+-- "flags F (0..63, placed in bits 29..24 of the first word; bit 23 is zero)": the flag field begins at bit 23
+abbrev pub flagsAt : Bool → ℕ → ℕ
+flagsAt true flags = flags * 2
+flagsAt false flags = 0
+
+-- no slot has more than 20 volts
+abbrev pub SlotWithin : Slot → Type 0
+SlotWithin Nothing = Unit {0}
+SlotWithin (Fixed volts) = volts ≤ 20
+SlotWithin (Avs past15V) = Unit {0}
+SlotWithin (Prog volts top) = Unit {0}
+
+-- the object at a slot; the power limited bit of PPS is set, peak current is 0
+unfoldable pub objectFor : Profile → Bool → Slot → Object
+objectFor p first Nothing = zeroObject
+objectFor p first (Fixed volts) =
+    object.Fixed (flagsAt first (p .flags)) 0 (record { 0 = volts * 20 }) (record { 0 = builtCurrent p volts })
+objectFor p first (Avs past15V) =
+    object.Avs 0 (record { 0 = builtCurrent p 15 }) (record { 0 = cond past15V (builtCurrent p 20) 0 })
+objectFor p first (Prog volts top) =
+    object.Pps 1 (record { 0 = top }) (record { 0 = 50 }) (record { 0 = progCurrent p volts })
+
+abbrev pub wordFor : Profile → ℕ → ℕ
+wordFor p k = wordIn (encodeOf (objectFor p (eqb k 0) (getD (slots (p .max .0)) k Nothing)))
+
+-- "PPS, only when wanted"
+abbrev pub builtCount : Profile → ℕ
+builtCount p = cond (eqb (p .pps) 1) (length (slots (p .max .0))) (length (baseSlots (p .max .0)))
+
+-- the first n places of a port's full list
+abbrev pub firstWords : Profile → ℕ → Words
+firstWords p n = record { words = sevenTo (wordFor p) 0 n; count = n }
+
+abbrev pub builtWords : Profile → Words
+builtWords p = firstWords p (builtCount p)
+
+unfoldable pub builtOf : Profile → Listing
+builtOf p = firstOf writeRefused (buildRefusals p) (record { verdict = success; list = builtWords p })

@@ -1,0 +1,68 @@
+-- Currents (01, "Power rules"; 004, tables 10-2, 10-3 and 10-7). P chooses them, and for PPS M does.
+-- Assumes nothing.
+use mathlib.Core.Bool.{Bool, true, false, cond, _&&_, _||_}
+use Prim.Native.Nat.{ℕ, zero, suc, _*_, min}
+use lib.Dec.{leb, ltb, eqb}
+use Rattle.steps.specs.Rounding.{downOf, upOf}
+use Rattle.rules.specs.declared.Profile.{Profile}
+
+-- ---- fixed objects, in 10 mA
+
+-- "The exact quotient in 10 mA is 50 P / V with V in volts", rounded down and up
+abbrev pub downAt : Profile → ℕ → ℕ
+downAt p volts = downOf (50 * p .present .0) volts
+
+abbrev pub upAt : Profile → ℕ → ℕ
+upAt p volts = upOf (50 * p .present .0) volts
+
+-- "rounding (0 down, 1 up)"
+abbrev pub roundedAs : ℕ → ℕ → ℕ → ℕ
+roundedAs zero down up = down
+roundedAs (suc n) down up = up
+
+abbrev pub cable10mA : Profile → ℕ
+cable10mA p = p .cable * 100
+
+-- "never above 3 A for 5, 9 and 15 V, never above the cable for 20 V"
+abbrev pub limitAt : Profile → ℕ → ℕ
+limitAt p volts = cond (eqb volts 20) (cable10mA p) 300
+
+-- "Built current: the quotient rounded as the profile says", within its limit
+unfoldable pub builtCurrent : Profile → ℕ → ℕ
+builtCurrent p volts = min (roundedAs (p .rounding) (downAt p volts) (upAt p volts)) (limitAt p volts)
+
+-- "Allowed at 5, 9, 15 V: if P exceeds 6 times the volts, from 3 A to the smaller of cable and the quotient rounded up; else the
+-- quotient rounded either way. At 20 V: either rounding, cut to the cable."
+unfoldable pub fixedAllowed : Profile → ℕ → ℕ → Bool
+fixedAllowed p volts a =
+    cond (eqb volts 20)
+    (eqb a (min (downAt p volts) (cable10mA p)) || eqb a (min (upAt p volts) (cable10mA p)))
+    (cond (ltb (6 * volts) (p .present .0))
+    (leb 300 a && leb a (min (upAt p volts) (cable10mA p)))
+    (eqb a (downAt p volts) || eqb a (upAt p volts)))
+
+-- ---- PPS, in 50 mA
+
+-- "Current in 50 mA, rounded down: 10 M / 9, 2 M / 3, M / 2": M half watts by 9, 15 and 20 V, each 10 M / V
+abbrev pub progDown : Profile → ℕ → ℕ
+progDown p volts = downOf (10 * p .max .0) volts
+
+abbrev pub cable50mA : Profile → ℕ
+cable50mA p = p .cable * 20
+
+-- "at most 3 A for the first two, at most the cable for the third"
+abbrev pub progLimit : Profile → ℕ → ℕ
+progLimit p volts = cond (eqb volts 20) (cable50mA p) 60
+
+unfoldable pub progCurrent : Profile → ℕ → ℕ
+progCurrent p volts = min (progDown p volts) (progLimit p volts)
+
+-- "9 V Prog with 54 < M < 90 and 15 V Prog with 90 < M < 120"
+abbrev pub mayExceed : ℕ → ℕ → Bool
+mayExceed m volts = (eqb volts 9 && (ltb 54 m && ltb m 90)) || (eqb volts 15 && (ltb 90 m && ltb m 120))
+
+-- "PPS: the built figure, except that" these "may go up to the smaller of cable and the rounded-down quotient"
+unfoldable pub progAllowed : Profile → ℕ → ℕ → Bool
+progAllowed p volts a =
+    eqb a (progCurrent p volts)
+    || (mayExceed (p .max .0) volts && (leb (progCurrent p volts) a && leb a (min (progDown p volts) (cable50mA p))))

@@ -1,0 +1,6 @@
+pub mod Profiles
+pub mod Plans
+pub mod Currents
+pub mod Building
+pub mod Checking
+pub mod Promises

@@ -1,0 +1,58 @@
+-- The profile of a port (01, "Power rules" and "Refusal numbers").
+-- Assumes nothing.
+use mathlib.Core.Bool.{Bool, true, false, not, _&&_, _||_}
+use mathlib.Core.List.{List, [], _∷_, _++_}
+use Prim.Native.Nat.{ℕ}
+use lib.Dec.{leb, ltb, eqb}
+use Rattle.verdicts.specs.Refusals.{Refusal, refusal, firstOf, verdict, success}
+use Rattle.steps.specs.declared.HalfWatts.{HalfWatts}
+use Rattle.rules.specs.declared.Profile.{Profile}
+use Rattle.rules.specs.declared.Profiled.{Profiled}
+
+abbrev pub within : ℕ → ℕ → ℕ → Bool
+within low high n = leb low n && leb n high
+
+-- 3: "cable not 3 or 5"
+abbrev pub badCable : ℕ → Bool
+badCable amperes = not (eqb amperes 3 || eqb amperes 5)
+
+-- 1 to 5, in order: M, P, cable, rounding, PPS wanted, F
+abbrev pub profileRows : ℕ → ℕ → ℕ → ℕ → ℕ → ℕ → List Refusal
+profileRows m p cable rounding pps flags =
+    refusal (not (within 1 200 m)) 1 0
+    ∷ refusal (not (within 1 m p)) 2 0
+    ∷ refusal (badCable cable) 3 0
+    ∷ refusal (ltb 1 rounding || ltb 1 pps) 4 0
+    ∷ refusal (ltb 63 flags) 5 0
+    ∷ []
+
+abbrev pub profileRefusals : Profile → List Refusal
+profileRefusals p = profileRows (p .max .0) (p .present .0) (p .cable) (p .rounding) (p .pps) (p .flags)
+
+-- 6: "PPS wanted and P < M (builder only)"
+abbrev pub ppsBelowMaximum : Profile → Bool
+ppsBelowMaximum p = eqb (p .pps) 1 && ltb (p .present .0) (p .max .0)
+
+abbrev pub buildRefusals : Profile → List Refusal
+buildRefusals p = profileRefusals p ++ (refusal (ppsBelowMaximum p) 6 0 ∷ [])
+
+-- ---- the default profile
+
+abbrev pub halfWatts : ℕ → HalfWatts
+halfWatts n = record { 0 = n }
+
+-- "The default profile from M alone is P = M, 3 A cable, down, no PPS, F = 0."
+abbrev pub defaults : HalfWatts → Profile
+defaults m = record { max = m; present = m; cable = 3; rounding = 0; pps = 0; flags = 0 }
+
+abbrev pub noProfile : Profile
+noProfile = record { max = halfWatts 0; present = halfWatts 0; cable = 0; rounding = 0; pps = 0; flags = 0 }
+
+abbrev pub profileRefused : ℕ → ℕ → Profiled
+profileRefused n p = record { verdict = verdict n p; profile = noProfile }
+
+abbrev pub defaultRefusals : HalfWatts → List Refusal
+defaultRefusals m = refusal (not (within 1 200 (m .0))) 1 0 ∷ []
+
+unfoldable pub defaultOf : HalfWatts → Profiled
+defaultOf m = firstOf profileRefused (defaultRefusals m) (record { verdict = success; profile = defaults m })

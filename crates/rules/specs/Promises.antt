@@ -1,0 +1,21 @@
+-- What each public call of this crate promises of its answer. The contracts cite these names, and so do the theorems over them.
+-- Assumes nothing.
+use mathlib.Core.Path.{_≡_}
+use Rattle.verdicts.specs.declared.Verdict.{Verdict}
+use Rattle.steps.specs.declared.HalfWatts.{HalfWatts}
+use Rattle.lists.specs.declared.Words.{Words}
+use Rattle.lists.specs.declared.Listing.{Listing}
+use Rattle.rules.specs.declared.Profile.{Profile}
+use Rattle.rules.specs.declared.Profiled.{Profiled}
+use Rattle.rules.specs.Profiles.{defaultOf}
+use Rattle.rules.specs.Building.{builtOf}
+use Rattle.rules.specs.Checking.{checkedOf}
+
+abbrev pub Defaults : HalfWatts → Profiled → Type 0
+Defaults m r = r ≡ defaultOf m
+
+abbrev pub Builds : Profile → Listing → Type 0
+Builds p r = r ≡ builtOf p
+
+abbrev pub Checks : Profile → Words → Verdict → Type 0
+Checks p l r = r ≡ checkedOf p l
