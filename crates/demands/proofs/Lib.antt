@@ -3,3 +3,7 @@ pub mod Refusals
 pub mod RoundTrips
 pub mod Unread
 pub mod OneOutcome
+pub mod Slots
+pub mod Built
+pub mod BuiltCurrents
+pub mod BuiltPasses

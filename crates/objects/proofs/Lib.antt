@@ -5,3 +5,4 @@ pub mod Cases
 pub mod Others
 pub mod RoundTrip
 pub mod Numbers
+pub mod Made

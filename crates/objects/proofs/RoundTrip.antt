@@ -89,7 +89,7 @@ module _ (w : ℕ) (h : w < 2 ^ 32) (first : Bool) where
 -- ---- the other way: a word that was made of an object decodes to it
 
 -- what an answer `Word w` says of the fields
-made : (fs : List Field) (w : ℕ) → gapless 0 fs ≡ true → wordOf fs ≡ Word w → retaken w fs ≡ fs
+pub made : (fs : List Field) (w : ℕ) → gapless 0 fs ≡ true → wordOf fs ≡ Word w → retaken w fs ≡ fs
 unfolding wordOf
 made fs w t e = go (allFit fs) refl e where
   go : (b : Bool) → allFit fs ≡ b → ifFit b (joined fs) ≡ Word w → retaken w fs ≡ fs

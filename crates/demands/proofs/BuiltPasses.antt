@@ -1,0 +1,209 @@
+-- Every list that is built for a profile passes the rule check for that profile.
+-- Assumes nothing.
+use mathlib.Core.Path.{_≡_, refl, sym, ap, ap₂, _∙_, subst}
+use mathlib.Core.Bool.{Bool, true, false, not, cond, _&&_, _||_, or-true, and-eq-true-iff}
+use mathlib.Core.List.{List, [], _∷_, _++_}
+use Prim.Native.Nat.{ℕ, zero, suc, _+_, _-_, _*_, _^_, _≤_, _<_}
+use native.Mathlib.Nat.{mul-assoc}
+use native.Mathlib.Numerals.{add-one}
+use native.Mathlib.Omega.{arith}
+use lib.Dec.{leb, ltb, eqb, eqb·suc-zero}
+use lib.ListN.{length, getD}
+use borrow.Author.Tests.{le-ltb, eq-eqb, ne-eqb, eqb-true, eqb-false, ltb-false}
+use Rattle.verdicts.specs.Refusals.{Refusal, refusal, eachPlace}
+use Rattle.verdicts.proofs.First.{NoneApply, none-append, none-left, none-right, none-all}
+use Rattle.objects.specs.declared.Object.{Object}
+use Rattle.objects.specs.declared.Object.the-variants as object
+use Rattle.objects.specs.declared.Decoded.{Decoded}
+use Rattle.objects.specs.declared.Decoded.the-variants.{Known, NotAllowed}
+use Rattle.objects.specs.declared.Encoded.the-variants.{Word}
+use Rattle.objects.specs.Asking.{ofObject, ofFixed}
+use Rattle.objects.specs.Decode.{decodeOf, decodedNumber, reservedSet}
+use Rattle.objects.specs.Encode.{encodeOf}
+use Rattle.objects.proofs.RoundTrip.{encode-decode}
+use Rattle.objects.proofs.Made.{made-clear}
+use Rattle.steps.specs.Units.{mv50}
+use Rattle.steps.specs.declared.Ma10.{Ma10}
+use Rattle.lists.specs.declared.Words.{Words}
+use Rattle.lists.specs.ObjectRules.{outOfBounds, over100W}
+use Rattle.lists.specs.Shape.{badCount, isFixed5V, outOfOrder, wordRows, fixedWith, hasFixed, avsMatches, avsDiffers, avsRows, shapeRefusals}
+use Rattle.lists.specs.Writing.{wordIn}
+use Rattle.lists.proofs.Finding.{found-at}
+use Rattle.lists.proofs.Shapes.{counted}
+use Rattle.lists.proofs.Sevens.{filled-at}
+use Rattle.rules.specs.declared.Profile.{Profile}
+use Rattle.rules.specs.declared.Slot.{Slot}
+use Rattle.rules.specs.declared.Slot.the-variants.{Nothing, Fixed, Avs, Prog}
+use Rattle.rules.specs.Profiles.{ppsBelowMaximum, profileRefusals, buildRefusals}
+use Rattle.rules.specs.Plans.{baseSlots, progSlots, slots}
+use Rattle.rules.specs.Currents.{builtCurrent}
+use Rattle.rules.specs.Building.{objectFor, wordFor, builtCount, builtWords}
+use Rattle.rules.specs.Checking.{same, fits, allFit, rightCount, wrongSet, currentAllowed, currentRows, checkRefusals}
+use Rattle.rules.proofs.PlanFacts.{base-within}
+use Rattle.rules.proofs.ProfileCases.{max-high, max-low, present-high, pps-high}
+use Rattle.rules.proofs.Builds.{built-count-high}
+use Rattle.rules.proofs.Checks.{none-looked, fit-more, right-set}
+use Rattle.demands.proofs.Slots.{slotGood, good-at, base-not-empty, first-is-5-V, Served15, Served20, has-15-V, has-20-V, follows, follow-is, follows-at}
+use Rattle.demands.proofs.Built.{some-at-20-V, has-word, no-flags-later, in-bounds, in-power}
+use Rattle.demands.proofs.BuiltCurrents.{allowed-at}
+
+-- an object that is built is what its slot asks for
+pub fits-own : (p : Profile) → NoneApply (profileRefusals p) → (first : Bool) (s : Slot) → slotGood s ≡ true → fits s (objectFor p first s) ≡ true
+unfolding fits objectFor
+fits-own p x first Nothing g = let z : false ≡ true = g in cc
+fits-own p x first (Fixed volts) g = eq-eqb (volts * 20 * 50) (volts * 1000) (mul-assoc volts 20 50)
+fits-own p x first (Avs true) g = ap not (ne-eqb (builtCurrent p 20) 0 (λ e. omega (arith, some-at-20-V p x)))
+fits-own p x first (Avs false) g = refl
+fits-own p x first (Prog volts top) g = ap (λ (b : Bool). b && true) (eq-eqb (top * 100) (top * 100) refl)
+
+module _ (p : Profile) (b : NoneApply (buildRefusals p)) where
+  abbrev m : ℕ
+  m = p .max .0
+
+  abbrev n : ℕ
+  n = builtCount p
+
+  abbrev ws : List ℕ
+  ws = builtWords p .words
+
+  abbrev slot : ℕ → Slot
+  slot k = getD (slots m) k Nothing
+
+  pub profile-clear : NoneApply (profileRefusals p)
+  profile-clear = none-left (profileRefusals p) (refusal (ppsBelowMaximum p) 6 0 ∷ []) b
+
+  -- ---- the count
+
+  high : m ≤ 200
+  high = max-high p profile-clear
+
+  n-high : n ≤ 7
+  n-high = built-count-high p high
+
+  base-in : length (baseSlots m) ≤ n
+  base-in = go (eqb (p .pps) 1) where
+    go : (t : Bool) → length (baseSlots m) ≤ cond t (length (slots m)) (length (baseSlots m))
+    go true = base-within m
+    go false = omega arith
+
+  n-in : n ≤ length (slots m)
+  n-in = go (eqb (p .pps) 1) where
+    go : (t : Bool) → cond t (length (slots m)) (length (baseSlots m)) ≤ length (slots m)
+    go true = omega arith
+    go false = base-within m
+
+  n-low : 1 ≤ n
+  n-low = omega (arith, base-in, base-not-empty m (max-low p profile-clear) high)
+
+  -- ---- each word
+
+  good : (k : ℕ) → k < n → slotGood (slot k) ≡ true
+  good k h = good-at m high k (omega (arith, n-in))
+
+  own : (k : ℕ) → k < n → encodeOf (objectFor p (eqb k 0) (slot k)) ≡ Word (getD ws k 0)
+  own k h = has-word p profile-clear (eqb k 0) (slot k) (good k h) ∙ ap Word (sym (filled-at (wordFor p) 0 n k n-high h))
+
+  known : (k : ℕ) → k < n → decodeOf (getD ws k 0) ≡ Known (objectFor p (eqb k 0) (slot k))
+  known k h = encode-decode (objectFor p (eqb k 0) (slot k)) (getD ws k 0) (own k h)
+
+  in-order : (k : ℕ) → k < n → outOfOrder (eqb k 0) (decodeOf (getD ws (k - 1) 0)) (decodeOf (getD ws k 0)) ≡ false
+  in-order zero h = refl
+  in-order (suc j) h =
+      let e : suc j - 1 ≡ j = omega arith in
+      rw (eqb·suc-zero j)
+      (ap₂ (λ (d f : Decoded). outOfOrder false d f) (ap (λ (i : ℕ). decodeOf (getD ws i 0)) e ∙ known j (omega arith)) (known (suc j) h)
+      ∙ ap not (follow-is p (eqb j 0) (eqb (suc j) 0) (slot j) (slot (suc j)) ∙ follows-at m high j (omega (arith, n-in))))
+
+  words-clear : (k : ℕ) → k < n → NoneApply (wordRows ws k)
+  words-clear k h =
+      let g = good k h in
+      let d = known k h in (
+        ap (λ (x : Decoded). eqb (decodedNumber x) 12) d,
+        (
+          ap (ofObject (λ (o : Object). reservedSet o (eqb k 0) (getD ws k 0))) d
+              ∙ made-clear (objectFor p (eqb k 0) (slot k)) (getD ws k 0) (eqb k 0) (own k h) (no-flags-later p profile-clear (eqb k 0) (slot k)),
+          (
+            ap (ofObject outOfBounds) d ∙ in-bounds p profile-clear (eqb k 0) (slot k) g,
+            (ap (ofObject over100W) d ∙ in-power p profile-clear (eqb k 0) (slot k) g, (in-order k h, tt)),
+          ),
+        ),
+      )
+
+  -- ---- AVS and its fixed objects
+
+  found : (k volts : ℕ) → k < n → slot k ≡ Fixed volts → hasFixed ws n (volts * 1000) (record { 0 = builtCurrent p volts }) ≡ true
+  unfolding objectFor
+  found k volts h e =
+      found-at ws (volts * 1000) (record { 0 = builtCurrent p volts }) n k h
+      (ap (ofObject (fixedWith (volts * 1000) (record { 0 = builtCurrent p volts }))) (known k h ∙ ap (λ (s : Slot). Known (objectFor p (eqb k 0) s)) e)
+      ∙ ap₂ _&&_ (eq-eqb (volts * 20 * 50) (volts * 1000) (mul-assoc volts 20 50)) (eq-eqb (builtCurrent p volts) (builtCurrent p volts) refl))
+
+  avs-own : (k : ℕ) → k < n → (s : Slot) → slot k ≡ s → avsDiffers ws n (objectFor p (eqb k 0) s) ≡ false
+  unfolding objectFor avsDiffers
+  avs-own k h Nothing e = refl
+  avs-own k h (Fixed volts) e = refl
+  avs-own k h (Avs true) e =
+      let f = has-15-V m high k true e in
+      let t = has-20-V m high k e in
+      rw (found 2 15 (omega (arith, base-in, f .below)) (f .slot), found 3 20 (omega (arith, base-in, t .below)) (t .slot))
+      (ap not (or-true (eqb (builtCurrent p 20) 0)))
+  avs-own k h (Avs false) e =
+      let f = has-15-V m high k false e in
+      rw (found 2 15 (omega (arith, base-in, f .below)) (f .slot))
+  avs-own k h (Prog volts top) e = refl
+
+  avs-clear : (k : ℕ) → k < n → NoneApply (avsRows ws n k)
+  avs-clear k h = (ap (ofObject (avsDiffers ws n)) (known k h) ∙ avs-own k h (slot k) refl, tt)
+
+  -- ---- the shape
+
+  begins : isFixed5V (getD ws 0 0) ≡ true
+  unfolding isFixed5V objectFor
+  begins =
+      ap (ofObject (ofFixed (λ v a. eqb (mv50 v) 5000)))
+      (known 0 n-low ∙ ap (λ (s : Slot). Known (objectFor p true s)) (first-is-5-V m (max-low p profile-clear) high))
+
+  pub shape-clear : NoneApply (shapeRefusals (builtWords p))
+  shape-clear = (
+    counted n n-low n-high,
+    (ap not begins, none-append (eachPlace (wordRows ws) n) (eachPlace (avsRows ws n) n) (none-all (wordRows ws) n words-clear) (none-all (avsRows ws n) n avs-clear)),
+  )
+
+  -- ---- the set of objects and their currents
+
+  all-fit : (k : ℕ) → k ≤ n → allFit (slots m) ws k ≡ true
+  all-fit zero h = none-looked (slots m) ws
+  all-fit (suc k) h =
+      subst (λ (j : ℕ). allFit (slots m) ws j ≡ true) (add-one k)
+      (fit-more (slots m) ws k (all-fit k (omega arith))
+      (ap (ofObject (fits (slot k))) (known k (omega arith)) ∙ fits-own p profile-clear (eqb k 0) (slot k) (good k (omega arith))))
+
+  right-count : rightCount p n ≡ true
+  right-count = go (eqb (p .pps) 1) refl where
+    below : ppsBelowMaximum p ≡ false
+    below = none-right (profileRefusals p) (refusal (ppsBelowMaximum p) 6 0 ∷ []) b .0
+
+    go : (t : Bool) → eqb (p .pps) 1 ≡ t
+        → (eqb (cond t (length (slots m)) (length (baseSlots m))) (length (baseSlots m))
+        || (eqb (p .present .0) m && eqb (cond t (length (slots m)) (length (baseSlots m))) (length (slots m)))) ≡ true
+    go true e =
+        let l : m ≤ p .present .0 = ltb-false (p .present .0) m (sym (ap (λ (q : Bool). q && ltb (p .present .0) m) e) ∙ below) in
+        let q : p .present .0 ≡ m = omega (arith, present-high p profile-clear) in
+        ap (λ (r : Bool). eqb (length (slots m)) (length (baseSlots m)) || r)
+        (ap₂ _&&_ (eq-eqb (p .present .0) m q) (eq-eqb (length (slots m)) (length (slots m)) refl))
+        ∙ or-true (eqb (length (slots m)) (length (baseSlots m)))
+    go false e = ap (λ (r : Bool). r || (eqb (p .present .0) m && eqb (length (baseSlots m)) (length (slots m)))) (eq-eqb (length (baseSlots m)) (length (baseSlots m)) refl)
+
+  currents-clear : (k : ℕ) → k < n → NoneApply (currentRows p ws k)
+  currents-clear k h = (
+    ap (ofObject (λ (o : Object). not (currentAllowed p (slot k) o))) (known k h)
+        ∙ ap not (allowed-at p profile-clear (eqb k 0) (slot k) (good k h)),
+    tt,
+  )
+
+  pub check-clear : NoneApply (checkRefusals p (builtWords p))
+  check-clear =
+      let last = refusal (wrongSet p (builtWords p)) 18 0 ∷ eachPlace (currentRows p ws) n in
+      let tail : NoneApply last = (right-set p (builtWords p) right-count (all-fit n (omega arith)), none-all (currentRows p ws) n currents-clear) in
+      none-append (profileRefusals p) (shapeRefusals (builtWords p) ++ last) profile-clear
+      (none-append (shapeRefusals (builtWords p)) last shape-clear tail)
