@@ -9,7 +9,7 @@ use native.Mathlib.Numerals.{add-one}
 use native.Mathlib.Omega.{arith}
 use lib.Dec.{leb, ltb, eqb, eqb·suc-zero}
 use lib.ListN.{length, getD}
-use borrow.Author.Tests.{le-ltb, eq-eqb, ne-eqb, eqb-true, eqb-false, ltb-false}
+use borrow.Author.Tests.{le-ltb, eq-eqb, ne-eqb, ltb-true, ltb-false}
 use Rattle.verdicts.specs.Refusals.{Refusal, refusal, eachPlace}
 use Rattle.verdicts.proofs.First.{NoneApply, none-append, none-left, none-right, none-all}
 use Rattle.objects.specs.declared.Object.{Object}
@@ -21,7 +21,7 @@ use Rattle.objects.specs.Asking.{ofObject, ofFixed}
 use Rattle.objects.specs.Decode.{decodeOf, decodedNumber, reservedSet}
 use Rattle.objects.specs.Encode.{encodeOf}
 use Rattle.objects.proofs.RoundTrip.{encode-decode}
-use Rattle.objects.proofs.Made.{made-clear}
+use Rattle.objects.proofs.Made.{made-clear, made-lt}
 use Rattle.steps.specs.Units.{mv50}
 use Rattle.steps.specs.declared.Ma10.{Ma10}
 use Rattle.lists.specs.declared.Words.{Words}
@@ -30,7 +30,8 @@ use Rattle.lists.specs.Shape.{badCount, isFixed5V, outOfOrder, wordRows, fixedW
 use Rattle.lists.specs.Writing.{wordIn}
 use Rattle.lists.proofs.Finding.{found-at}
 use Rattle.lists.proofs.Shapes.{counted}
-use Rattle.lists.proofs.Sevens.{filled-at}
+use Rattle.lists.proofs.Sevens.{filled-at, past-filled}
+use Rattle.lists.proofs.RoundTrips.{Words32}
 use Rattle.rules.specs.declared.Profile.{Profile}
 use Rattle.rules.specs.declared.Slot.{Slot}
 use Rattle.rules.specs.declared.Slot.the-variants.{Nothing, Fixed, Avs, Prog}
@@ -207,3 +208,14 @@ module _ (p : Profile) (b : NoneApply (buildRefusals p)) where
       let tail : NoneApply last = (right-set p (builtWords p) right-count (all-fit n (omega arith)), none-all (currentRows p ws) n currents-clear) in
       none-append (profileRefusals p) (shapeRefusals (builtWords p) ++ last) profile-clear
       (none-append (shapeRefusals (builtWords p)) last shape-clear tail)
+
+  -- ---- its count, and that each word has 32 bits
+
+  pub built-counts : builtCount p ≤ 7
+  built-counts = n-high
+
+  pub built-fits : Words32 (builtWords p)
+  built-fits = record { fits = λ k. go k (ltb k n) refl } where
+    go : (k : ℕ) (t : Bool) → ltb k n ≡ t → getD ws k 0 < 2 ^ 32
+    go k true e = made-lt (objectFor p (eqb k 0) (slot k)) (getD ws k 0) (own k (ltb-true k n e))
+    go k false e = subst (λ (w : ℕ). w < 2 ^ 32) (sym (past-filled (wordFor p) 0 n k (ltb-false k n e))) (omega arith)

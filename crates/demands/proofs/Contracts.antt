@@ -45,6 +45,12 @@ use Rattle.lists.specs.declared.Listing.{Listing}
 use Rattle.lists.proofs.shape.Reads as shape
 use Rattle.lists.proofs.read.Reads as read
 use Rattle.lists.proofs.write.Reads as write
+use Rattle.steps.specs.declared.HalfWatts.{HalfWatts}
+use Rattle.rules.specs.declared.Profile.{Profile}
+use Rattle.rules.specs.declared.Profiled.{Profiled}
+use Rattle.rules.proofs.default_profile.Reads as default-profile
+use Rattle.rules.proofs.build.Reads as build
+use Rattle.rules.proofs.check.Reads as check
 
 -- ---- steps
 
@@ -117,3 +123,14 @@ ReadAnswers l r = read.Post tt (l, tt) r (l, tt)
 
 abbrev pub WriteAnswers : Objects → Listing → Type 0
 WriteAnswers o r = write.Post tt (o, tt) r (o, tt)
+
+-- ---- rules
+
+abbrev pub DefaultAnswers : HalfWatts → Profiled → Type 0
+DefaultAnswers m r = default-profile.Post tt (m, tt) r (m, tt)
+
+abbrev pub BuildAnswers : Profile → Listing → Type 0
+BuildAnswers p r = build.Post tt (p, tt) r (p, tt)
+
+abbrev pub CheckAnswers : Profile → Words → Verdict → Type 0
+CheckAnswers p l r = check.Post tt (p, (l, tt)) r (p, (l, tt))

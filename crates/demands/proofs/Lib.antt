@@ -7,3 +7,4 @@ pub mod Slots
 pub mod Built
 pub mod BuiltCurrents
 pub mod BuiltPasses
+pub mod PowerRules

@@ -8,6 +8,8 @@ use Rattle.demands.proofs.Contracts.{RoundDownAnswers, RoundUpAnswers}
 use Rattle.demands.proofs.Contracts.{Mv20ToMv25Answers, Mv20ToMv50Answers, Mv20ToMv100Answers, Mv25ToMv20Answers, Mv25ToMv50Answers, Mv25ToMv100Answers, Mv50ToMv20Answers, Mv50ToMv25Answers, Mv50ToMv100Answers, Mv100ToMv20Answers, Mv100ToMv25Answers, Mv100ToMv50Answers, Ma10ToMa50Answers, Ma50ToMa10Answers}
 use Rattle.demands.proofs.Contracts.{DecodeAnswers, ReservedAnswers, EncodeAnswers}
 use Rattle.demands.proofs.Contracts.{ShapeAnswers, ReadAnswers, WriteAnswers}
+use Rattle.rules.specs.declared.Profile.{Profile}
+use Rattle.demands.proofs.Contracts.{DefaultAnswers, BuildAnswers, CheckAnswers}
 
 abbrev pub Settled : {A R : Type 0} → (A → R → Type 0) → Type 0
 Settled {A} {R} allows = (a : A) (r s : R) → allows a r → allows a s → r ≡ s
@@ -87,3 +89,14 @@ read-settles l r s e f = only e f
 
 pub write-settles : Settled WriteAnswers
 write-settles o r s e f = only e f
+
+-- ---- rules
+
+pub default-settles : Settled DefaultAnswers
+default-settles m r s e f = only e f
+
+pub build-settles : Settled BuildAnswers
+build-settles p r s e f = only e f
+
+pub check-settles : (p : Profile) → Settled (CheckAnswers p)
+check-settles p l r s e f = only e f

@@ -28,7 +28,15 @@ use Rattle.lists.specs.Writing.{noWords, writeRefusals}
 use Rattle.lists.proofs.Shapes.{shape-numbered, shape-verdict}
 use Rattle.lists.proofs.Readings.{read-verdict, read-empty}
 use Rattle.lists.proofs.Writings.{write-numbered, write-verdict, write-empty}
-use Rattle.demands.proofs.Contracts.{DecodeAnswers, EncodeAnswers, ShapeAnswers, ReadAnswers, WriteAnswers}
+use Rattle.steps.specs.declared.HalfWatts.{HalfWatts}
+use Rattle.rules.specs.declared.Profile.{Profile}
+use Rattle.rules.specs.declared.Profiled.{Profiled}
+use Rattle.rules.specs.Profiles.{noProfile, defaultRefusals, buildRefusals}
+use Rattle.rules.specs.Checking.{checkRefusals}
+use Rattle.rules.proofs.Defaults.{default-verdict, default-empty}
+use Rattle.rules.proofs.Builds.{build-numbered, build-verdict, build-empty}
+use Rattle.rules.proofs.Checks.{check-numbered, check-verdict}
+use Rattle.demands.proofs.Contracts.{DecodeAnswers, EncodeAnswers, ShapeAnswers, ReadAnswers, WriteAnswers, DefaultAnswers, BuildAnswers, CheckAnswers}
 
 -- ---- one word
 
@@ -67,3 +75,22 @@ write-refusals o r e = (
   answers (r .verdict) (writeRefusals o) (exactly (writeRefusals o) (write-numbered o)) (ap (λ (x : Listing). x .verdict) e ∙ write-verdict o),
   λ f. ap (λ (x : Listing). x .list) e ∙ write-empty o (λ z. f (ap (λ (x : Listing). x .verdict) e ∙ z)),
 )
+
+-- ---- rules
+
+pub default-refusals : (m : HalfWatts) (r : Profiled) → DefaultAnswers m r
+    → Answers (r .verdict) (defaultRefusals m) × ((r .verdict ≡ success → ⊥) → r .profile ≡ noProfile)
+default-refusals m r e = (
+  answers (r .verdict) (defaultRefusals m) (exactly (defaultRefusals m) refl) (ap (λ (x : Profiled). x .verdict) e ∙ default-verdict m),
+  λ f. ap (λ (x : Profiled). x .profile) e ∙ default-empty m (λ z. f (ap (λ (x : Profiled). x .verdict) e ∙ z)),
+)
+
+pub build-refusals : (p : Profile) (r : Listing) → BuildAnswers p r
+    → Answers (r .verdict) (buildRefusals p) × ((r .verdict ≡ success → ⊥) → r .list ≡ noWords)
+build-refusals p r e = (
+  answers (r .verdict) (buildRefusals p) (exactly (buildRefusals p) (build-numbered p)) (ap (λ (x : Listing). x .verdict) e ∙ build-verdict p),
+  λ f. ap (λ (x : Listing). x .list) e ∙ build-empty p (λ z. f (ap (λ (x : Listing). x .verdict) e ∙ z)),
+)
+
+pub check-refusals : (p : Profile) (l : Words) (r : Verdict) → CheckAnswers p l r → Answers r (checkRefusals p l)
+check-refusals p l r e = answers r (checkRefusals p l) (exactly (checkRefusals p l) (check-numbered p l)) (e ∙ check-verdict p l)

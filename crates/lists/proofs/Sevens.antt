@@ -7,7 +7,7 @@ use Prim.Native.Nat.{ℕ, zero, suc, _+_, _≤_, _<_}
 use native.Mathlib.Omega.{arith}
 use lib.ListN.{length, getD, set, replicate}
 use lib.Dec.{ltb}
-use borrow.Author.Tests.{lt-ltb, ltb-true}
+use borrow.Author.Tests.{lt-ltb, le-ltb, ltb-true}
 use Rattle.lists.specs.Seven.{placeTo, sevenTo}
 
 module _ {A : Type 0} (f : ℕ → A) (blank : A) where
@@ -51,6 +51,21 @@ module _ {A : Type 0} (f : ℕ → A) (blank : A) where
     at (suc (suc (suc (suc (suc zero))))) h = refl
     at (suc (suc (suc (suc (suc (suc zero)))))) h = refl
     at (suc (suc (suc (suc (suc (suc (suc i))))))) h = absurd (omega arith)
+
+  blank-at : (n k : ℕ) → n ≤ k → placeTo f blank n k ≡ blank
+  blank-at n k h = ap (λ b. cond b (f k) blank) (le-ltb k n h)
+
+  -- and at one that is not
+  pub past-filled : (n k : ℕ) → n ≤ k → getD (sevenTo f blank n) k blank ≡ blank
+  unfolding sevenTo
+  past-filled n zero h = blank-at n 0 h
+  past-filled n (suc zero) h = blank-at n 1 h
+  past-filled n (suc (suc zero)) h = blank-at n 2 h
+  past-filled n (suc (suc (suc zero))) h = blank-at n 3 h
+  past-filled n (suc (suc (suc (suc zero)))) h = blank-at n 4 h
+  past-filled n (suc (suc (suc (suc (suc zero))))) h = blank-at n 5 h
+  past-filled n (suc (suc (suc (suc (suc (suc zero)))))) h = blank-at n 6 h
+  past-filled n (suc (suc (suc (suc (suc (suc (suc i))))))) h = refl
 
 -- places that agree up to the count are the same seven
 pub same-seven : {A : Type 0} (f g : ℕ → A) (blank : A) (n : ℕ) → ((k : ℕ) → k < n → f k ≡ g k) → sevenTo f blank n ≡ sevenTo g blank n

@@ -1,18 +1,21 @@
 -- A word that was made of an object has no reserved bit set; after the first word of a list this asks that it has no flags.
 -- Assumes nothing.
-use mathlib.Core.Path.{_≡_, refl, sym, ap, ap₂, _∙_}
+use mathlib.Core.Path.{_≡_, refl, sym, ap, ap₂, _∙_, subst}
 use mathlib.Core.Bool.{Bool, true, false, not, _&&_}
 use mathlib.Core.List.{List, [], _∷_}
-use Prim.Native.Nat.{ℕ, _+_, _*_, _/_, _%_, _^_}
+use Prim.Native.Nat.{ℕ, _+_, _*_, _/_, _%_, _^_, _<_}
+use native.Mathlib.Omega.{arith}
 use lib.Pow.{mod-pow-add, shr-shr}
 use lib.Dec.{eqb}
 use borrow.Author.Tests.{eq-eqb}
 use Rattle.objects.specs.Bits.{bits}
 use Rattle.objects.specs.Decode.{clear, reservedClear, reservedSet}
-use Rattle.objects.specs.Encode.{fieldsOf, encodeOf}
+use Rattle.objects.specs.Layout.{Field, allFit, joined}
+use Rattle.objects.specs.Encode.{fieldsOf, ifFit, wordOf, encodeOf}
 use Rattle.objects.specs.declared.Object.{Object}
 use Rattle.objects.specs.declared.Object.the-variants.{Fixed, Battery, Variable, Pps, Avs}
 use Rattle.objects.specs.declared.Encoded.the-variants.{Word}
+use Rattle.objects.proofs.Rows.{gapless, total, joined-lt}
 use Rattle.objects.proofs.RoundTrip.{made}
 
 -- what may stand in a word that is not the first
@@ -58,3 +61,19 @@ made-clear (Avs p l h) w first e t =
     let r = made (fieldsOf (Avs p l h)) w refl e in
     let z : bits w 25 20 ≡ 0 = cc in
     ap not (eq-eqb (bits w 25 20) 0 z)
+
+-- ---- a word has 32 bits
+
+fitting : (fs : List Field) (w : ℕ) → gapless 0 fs ≡ true → wordOf fs ≡ Word w → w < 2 ^ total fs
+unfolding wordOf
+fitting fs w t e = go (allFit fs) refl e where
+  go : (b : Bool) → allFit fs ≡ b → ifFit b (joined fs) ≡ Word w → w < 2 ^ total fs
+  go true q r = let j : joined fs ≡ w = cc in subst (λ (x : ℕ). x < 2 ^ total fs) j (joined-lt fs t q)
+  go false q r = let z : _≡_ {A = ℕ} 0 1 = cc in absurd (omega arith)
+
+pub made-lt : (o : Object) (w : ℕ) → encodeOf o ≡ Word w → w < 2 ^ 32
+made-lt (Fixed f p v a) w e = fitting (fieldsOf (Fixed f p v a)) w refl e
+made-lt (Battery x m p) w e = fitting (fieldsOf (Battery x m p)) w refl e
+made-lt (Variable x m a) w e = fitting (fieldsOf (Variable x m a)) w refl e
+made-lt (Pps l x m a) w e = fitting (fieldsOf (Pps l x m a)) w refl e
+made-lt (Avs p l h) w e = fitting (fieldsOf (Avs p l h)) w refl e

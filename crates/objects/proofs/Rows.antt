@@ -1,12 +1,13 @@
 -- A word is the sum of its fields, and the fields of such a sum are the fields again: proved once, over any row of fields that leaves no gap.
 -- Assumes nothing.
-use mathlib.Core.Path.{_≡_, refl, sym, ap, ap₂, _∙_}
+use mathlib.Core.Path.{_≡_, refl, sym, ap, ap₂, _∙_, subst}
 use mathlib.Core.Bool.{Bool, true, false, _&&_, and-eq-true-iff}
 use mathlib.Core.List.{List, [], _∷_}
 use Prim.Native.Nat.{ℕ, _+_, _-_, _*_, _/_, _%_, _^_, _<_, _≤_}
 use native.Mathlib.Nat.{add-comm, mul-comm, mul-assoc, add-mul, zero-mul, mul-one, div-one, mod-one, mod-lt, mod-eq-of-lt}
 use native.Mathlib.Omega.{arith}
 use lib.Pow.{pow-pos, pow-add, shr-shr, mod-pow-add, high, low}
+use lib.Arith.{digits-lt}
 use lib.Dec.{ltb, leb, eqb}
 use borrow.Author.Tests.{lt-ltb, ltb-true, leb-true, eqb-true}
 use Rattle.objects.specs.Bits.{bits}
@@ -114,3 +115,14 @@ parted fs t f =
     retaken-shifted (joined fs) 0 fs t
     ∙ ap (λ (x : ℕ). shifted x fs) (div-one (joined fs) ∙ joined-packed 0 fs t ∙ mul-one (packed fs))
     ∙ shifted-packed fs f
+
+packed-lt : (fs : List Field) → allFit fs ≡ true → packed fs < 2 ^ total fs
+packed-lt [] t = omega arith
+packed-lt (field v hi lo ∷ fs) t =
+    let n = hi + 1 - lo in
+    let f = and-eq-true-iff (ltb v (2 ^ n)) (allFit fs) .0 t in
+    subst (λ (k : ℕ). packed fs * 2 ^ n + v < k) (sym (pow-add 2 (total fs) n)) (digits-lt (packed-lt fs (f .1)) (ltb-true v (2 ^ n) (f .0)))
+
+-- a sum of fields that fit is below the next power
+pub joined-lt : (fs : List Field) → gapless 0 fs ≡ true → allFit fs ≡ true → joined fs < 2 ^ total fs
+joined-lt fs t f = subst (λ (k : ℕ). k < 2 ^ total fs) (sym (joined-packed 0 fs t ∙ mul-one (packed fs))) (packed-lt fs f)

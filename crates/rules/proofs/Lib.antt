@@ -7,3 +7,4 @@ pub mod PlanFacts
 pub mod Allowed
 pub mod Builds
 pub mod Checks
+pub mod Defaults
