@@ -8,3 +8,4 @@ pub mod Built
 pub mod BuiltCurrents
 pub mod BuiltPasses
 pub mod PowerRules
+pub mod MarkedCases

@@ -1,0 +1,72 @@
+-- The cases of 01, "Checked by hand", that are marked (P): one table, one claim, by computation over the definitions that the
+-- contracts cite.
+-- Assumes nothing.
+use mathlib.Core.Path.{_≡_, refl}
+use mathlib.Core.List.{List, [], _∷_, map}
+use Prim.Native.Nat.{ℕ}
+use Rattle.verdicts.specs.declared.Verdict.{Verdict}
+use Rattle.verdicts.specs.Refusals.{firstOf, eachPlace, verdict, success}
+use Rattle.steps.specs.Rounding.{downOf, upOf}
+use Rattle.objects.specs.Encode.{wordOf}
+use Rattle.lists.specs.declared.Words.{Words}
+use Rattle.lists.specs.declared.Listing.{Listing}
+use Rattle.lists.specs.Seven.{sevenTo}
+use Rattle.rules.specs.declared.Profile.{Profile}
+use Rattle.rules.specs.Profiles.{halfWatts, defaultOf}
+use Rattle.rules.specs.Plans.{baseSlots, progSlots}
+use Rattle.rules.specs.Currents.{builtCurrent, progCurrent}
+use Rattle.rules.specs.Building.{objectFor, builtOf}
+
+-- what a call answers: a list with its verdict, or a verdict alone
+pub data Answer : Type 0 where
+  listed : Listing → Answer
+  judged : Verdict → Answer
+
+-- what the definition gives, and what 01 says
+pub data Case : Type 0 where
+  case : Answer → Answer → Case
+
+abbrev pub given : Case → Answer
+given (case a b) = a
+
+abbrev pub said : Case → Answer
+said (case a b) = b
+
+-- ---- as 01 writes them
+
+abbrev words : List ℕ → ℕ → Words
+words ws n = record { words = ws; count = n }
+
+abbrev success-with : List ℕ → ℕ → Answer
+success-with ws n = listed (record { verdict = success; list = words ws n })
+
+-- M, P, cable, rounding, PPS wanted; no flags
+abbrev built : ℕ → ℕ → ℕ → ℕ → ℕ → Answer
+built m p cable rounding pps =
+    listed (builtOf (record { max = halfWatts m; present = halfWatts p; cable = cable; rounding = rounding; pps = pps; flags = 0 }))
+
+-- "A case by M alone uses the default profile."
+abbrev alone : ℕ → Answer
+alone m = listed (builtOf (defaultOf (halfWatts m) .profile))
+
+abbrev pub table : List Case
+table =
+    -- the listing (36 W)
+    case (built 72 72 3 0 1) (success-with (0x0001912C ∷ 0x0002D12C ∷ 0x0004B0F0 ∷ 0xE003C000 ∷ 0xC8DC323C ∷ 0xC9403230 ∷ 0 ∷ []) 6)
+    -- M 160, P 80, 5 A, up, no PPS: 300, 300, 267, 200; AVS word E0042CC8
+    ∷ case (built 160 80 5 1 0) (success-with (0x0001912C ∷ 0x0002D12C ∷ 0x0004B10B ∷ 0x000640C8 ∷ 0xE0042CC8 ∷ 0 ∷ 0 ∷ []) 5)
+    -- M = P = 80, down: 300, 300, 266; AVS 266 and 0
+    ∷ case (alone 80) (success-with (0x0001912C ∷ 0x0002D12C ∷ 0x0004B10A ∷ 0xE0042800 ∷ 0 ∷ 0 ∷ 0 ∷ []) 4)
+    -- M 160, P 130, 5 A, down: 300, 300, 300, 325; AVS 300 and 325. The list L
+    ∷ case (built 160 130 5 0 0) (success-with (0x0001912C ∷ 0x0002D12C ∷ 0x0004B12C ∷ 0x00064145 ∷ 0xE004B145 ∷ 0 ∷ 0 ∷ []) 5)
+    -- M = 30: one word, 300. M = 31: 300 and 172
+    ∷ case (alone 30) (success-with (0x0001912C ∷ 0 ∷ 0 ∷ 0 ∷ 0 ∷ 0 ∷ 0 ∷ []) 1)
+    ∷ case (alone 31) (success-with (0x0001912C ∷ 0x0002D0AC ∷ 0 ∷ 0 ∷ 0 ∷ 0 ∷ 0 ∷ []) 2)
+    -- M = 54: no 15 V. M = 55: 15 V at 183
+    ∷ case (alone 54) (success-with (0x0001912C ∷ 0x0002D12C ∷ 0 ∷ 0 ∷ 0 ∷ 0 ∷ 0 ∷ []) 2)
+    ∷ case (alone 55) (success-with (0x0001912C ∷ 0x0002D12C ∷ 0x0004B0B7 ∷ 0xE002DC00 ∷ 0 ∷ 0 ∷ 0 ∷ []) 4)
+    ∷ []
+
+pub marked-cases : map given table ≡ map said table
+unfolding firstOf sevenTo downOf upOf wordOf defaultOf baseSlots progSlots builtCurrent progCurrent objectFor builtOf
+marked-cases = refl
