@@ -51,6 +51,9 @@ use Rattle.rules.specs.declared.Profiled.{Profiled}
 use Rattle.rules.proofs.default_profile.Reads as default-profile
 use Rattle.rules.proofs.build.Reads as build
 use Rattle.rules.proofs.check.Reads as check
+use Rattle.requests.specs.declared.Asked.{Asked}
+use Rattle.requests.proofs.take_apart.Reads as take-apart
+use Rattle.requests.proofs.answer.Reads as answer
 
 -- ---- steps
 
@@ -134,3 +137,11 @@ BuildAnswers p r = build.Post tt (p, tt) r (p, tt)
 
 abbrev pub CheckAnswers : Profile → Words → Verdict → Type 0
 CheckAnswers p l r = check.Post tt (p, (l, tt)) r (p, (l, tt))
+
+-- ---- requests
+
+abbrev pub TakeApartAnswers : Object → ℕ → Asked → Type 0
+TakeApartAnswers o w r = take-apart.Post tt (o, (w, tt)) r (o, (w, tt))
+
+abbrev pub AnswerAnswers : Words → ℕ → Verdict → Type 0
+AnswerAnswers l w r = answer.Post tt (l, (w, tt)) r (l, (w, tt))

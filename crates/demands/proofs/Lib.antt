@@ -8,4 +8,5 @@ pub mod Built
 pub mod BuiltCurrents
 pub mod BuiltPasses
 pub mod PowerRules
+pub mod At15V
 pub mod MarkedCases

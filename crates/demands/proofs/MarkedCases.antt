@@ -3,19 +3,25 @@
 -- Assumes nothing.
 use mathlib.Core.Path.{_≡_, refl}
 use mathlib.Core.List.{List, [], _∷_, map}
-use Prim.Native.Nat.{ℕ}
+use Prim.Native.Nat.{ℕ, _+_, _*_, _^_}
 use Rattle.verdicts.specs.declared.Verdict.{Verdict}
 use Rattle.verdicts.specs.Refusals.{firstOf, eachPlace, verdict, success}
 use Rattle.steps.specs.Rounding.{downOf, upOf}
+use Rattle.objects.specs.Bits.{bits}
+use Rattle.objects.specs.Decode.{decodeOf, reservedSet}
 use Rattle.objects.specs.Encode.{wordOf}
 use Rattle.lists.specs.declared.Words.{Words}
 use Rattle.lists.specs.declared.Listing.{Listing}
+use Rattle.lists.specs.ObjectRules.{outOfBounds, over100W, mayFollow}
+use Rattle.lists.specs.Shape.{isFixed5V, hasFixed, avsDiffers}
 use Rattle.lists.specs.Seven.{sevenTo}
 use Rattle.rules.specs.declared.Profile.{Profile}
 use Rattle.rules.specs.Profiles.{halfWatts, defaultOf}
 use Rattle.rules.specs.Plans.{baseSlots, progSlots}
 use Rattle.rules.specs.Currents.{builtCurrent, progCurrent}
 use Rattle.rules.specs.Building.{objectFor, builtOf}
+use Rattle.requests.specs.Limits.{bitSet, avsTop, avsLimit}
+use Rattle.requests.specs.Answering.{answerOf}
 
 -- what a call answers: a list with its verdict, or a verdict alone
 pub data Answer : Type 0 where
@@ -49,6 +55,11 @@ built m p cable rounding pps =
 abbrev alone : ℕ → Answer
 alone m = listed (builtOf (defaultOf (halfWatts m) .profile))
 
+-- on the list L: a position, a voltage in 25 mV and a current in 50 mA
+abbrev asked : ℕ → ℕ → ℕ → Answer
+asked position volts current =
+    judged (answerOf (words (0x0001912C ∷ 0x0002D12C ∷ 0x0004B12C ∷ 0x00064145 ∷ 0xE004B145 ∷ 0 ∷ 0 ∷ []) 5) (position * 2 ^ 28 + volts * 2 ^ 9 + current))
+
 abbrev pub table : List Case
 table =
     -- the listing (36 W)
@@ -65,8 +76,16 @@ table =
     -- M = 54: no 15 V. M = 55: 15 V at 183
     ∷ case (alone 54) (success-with (0x0001912C ∷ 0x0002D12C ∷ 0 ∷ 0 ∷ 0 ∷ 0 ∷ 0 ∷ []) 2)
     ∷ case (alone 55) (success-with (0x0001912C ∷ 0x0002D12C ∷ 0x0004B0B7 ∷ 0xE002DC00 ∷ 0 ∷ 0 ∷ 0 ∷ []) 4)
+    -- On L, position 5: 15.0 V at 3.25 A passes; 3.30 A gives 24; 14.9 V at 3.25 A gives 24
+    ∷ case (asked 5 600 65) (judged success)
+    ∷ case (asked 5 600 66) (judged (verdict 24 0))
+    ∷ case (asked 5 596 65) (judged (verdict 24 0))
+    -- On L: voltage figure 602 gives 23; 8.9 V gives 22; position 6 gives 20
+    ∷ case (asked 5 602 65) (judged (verdict 23 0))
+    ∷ case (asked 5 356 65) (judged (verdict 22 0))
+    ∷ case (asked 6 600 65) (judged (verdict 20 0))
     ∷ []
 
 pub marked-cases : map given table ≡ map said table
-unfolding firstOf sevenTo downOf upOf wordOf defaultOf baseSlots progSlots builtCurrent progCurrent objectFor builtOf
+unfolding firstOf eachPlace bits decodeOf reservedSet outOfBounds over100W mayFollow isFixed5V hasFixed avsDiffers bitSet avsTop avsLimit answerOf sevenTo downOf upOf wordOf defaultOf baseSlots progSlots builtCurrent progCurrent objectFor builtOf
 marked-cases = refl

@@ -10,6 +10,8 @@ use Rattle.demands.proofs.Contracts.{DecodeAnswers, ReservedAnswers, En
 use Rattle.demands.proofs.Contracts.{ShapeAnswers, ReadAnswers, WriteAnswers}
 use Rattle.rules.specs.declared.Profile.{Profile}
 use Rattle.demands.proofs.Contracts.{DefaultAnswers, BuildAnswers, CheckAnswers}
+use Rattle.lists.specs.declared.Words.{Words}
+use Rattle.demands.proofs.Contracts.{TakeApartAnswers, AnswerAnswers}
 
 abbrev pub Settled : {A R : Type 0} → (A → R → Type 0) → Type 0
 Settled {A} {R} allows = (a : A) (r s : R) → allows a r → allows a s → r ≡ s
@@ -100,3 +102,11 @@ build-settles p r s e f = only e f
 
 pub check-settles : (p : Profile) → Settled (CheckAnswers p)
 check-settles p l r s e f = only e f
+
+-- ---- requests
+
+pub take-apart-settles : (o : Object) → Settled (TakeApartAnswers o)
+take-apart-settles o w r s e f = only e f
+
+pub answer-settles : (l : Words) → Settled (AnswerAnswers l)
+answer-settles l w r s e f = only e f

@@ -36,7 +36,9 @@ use Rattle.rules.specs.Checking.{checkRefusals}
 use Rattle.rules.proofs.Defaults.{default-verdict, default-empty}
 use Rattle.rules.proofs.Builds.{build-numbered, build-verdict, build-empty}
 use Rattle.rules.proofs.Checks.{check-numbered, check-verdict}
-use Rattle.demands.proofs.Contracts.{DecodeAnswers, EncodeAnswers, ShapeAnswers, ReadAnswers, WriteAnswers, DefaultAnswers, BuildAnswers, CheckAnswers}
+use Rattle.requests.specs.Answering.{answerRefusals}
+use Rattle.requests.proofs.Answers.{answer-numbered, answer-verdict}
+use Rattle.demands.proofs.Contracts.{DecodeAnswers, EncodeAnswers, ShapeAnswers, ReadAnswers, WriteAnswers, DefaultAnswers, BuildAnswers, CheckAnswers, AnswerAnswers}
 
 -- ---- one word
 
@@ -94,3 +96,8 @@ build-refusals p r e = (
 
 pub check-refusals : (p : Profile) (l : Words) (r : Verdict) → CheckAnswers p l r → Answers r (checkRefusals p l)
 check-refusals p l r e = answers r (checkRefusals p l) (exactly (checkRefusals p l) (check-numbered p l)) (e ∙ check-verdict p l)
+
+-- ---- requests
+
+pub answer-refusals : (l : Words) (w : ℕ) (r : Verdict) → AnswerAnswers l w r → Answers r (answerRefusals l w)
+answer-refusals l w r e = answers r (answerRefusals l w) (exactly (answerRefusals l w) (answer-numbered l w)) (e ∙ answer-verdict l w)

@@ -47,3 +47,16 @@ pub const AVS_DIFFERS: u8 = 17;
 pub const WRONG_SET: u8 = 18;
 
 pub const CURRENT_NOT_ALLOWED: u8 = 19;
+
+// A request.
+pub const POSITION: u8 = 20;
+
+pub const RESERVED_BIT_IN_REQUEST: u8 = 21;
+
+pub const VOLTAGE_OUTSIDE: u8 = 22;
+
+pub const AVS_VOLTAGE_NOT_WHOLE: u8 = 23;
+
+pub const OPERATING_TOO_LARGE: u8 = 24;
+
+pub const MAXIMUM_TOO_LARGE: u8 = 25;

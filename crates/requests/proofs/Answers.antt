@@ -1,0 +1,64 @@
+-- The cases of the answer to a request, and that every refusal has a number.
+-- Assumes nothing.
+use mathlib.Core.Path.{_≡_, refl, _∙_}
+use mathlib.Core.Bool.{true, false}
+use Prim.Native.Nat.{ℕ, _-_, _<_, _≤_}
+use native.Mathlib.Omega.{arith}
+use borrow.Author.Tests.{lt-ltb, le-ltb}
+use Rattle.verdicts.specs.Refusals.{verdict, success, verdictOf}
+use Rattle.verdicts.proofs.First.{hit, miss, onward, all-missed, refused-so, numbered, numbered-append}
+use Rattle.objects.specs.declared.Object.{Object}
+use Rattle.objects.specs.declared.Decoded.the-variants.{Known}
+use Rattle.lists.specs.declared.Words.{Words}
+use Rattle.lists.specs.Shape.{shapeRefusals, shapeOf}
+use Rattle.lists.specs.Reading.{objectOf}
+use Rattle.lists.proofs.Shapes.{shape-numbered, none-of, word-passes}
+use Rattle.lists.proofs.Judging.{has-object}
+use Rattle.requests.specs.Taking.{positionOf}
+use Rattle.requests.specs.Answering.{badPosition, namedBy, answerRefusals, answerOf}
+use Rattle.requests.specs.Judging.{judgedOf}
+
+-- ---- the position
+
+pub position-zero : (count position : ℕ) → position < 1 → badPosition count position ≡ true
+position-zero count position h = rw (lt-ltb position 1 h)
+
+pub position-past : (count position : ℕ) → 1 ≤ position → count < position → badPosition count position ≡ true
+position-past count position h k = rw (le-ltb position 1 h, lt-ltb count position k)
+
+pub position-good : (count position : ℕ) → 1 ≤ position → position ≤ count → badPosition count position ≡ false
+position-good count position h k = rw (le-ltb position 1 h, le-ltb count position k)
+
+module _ (l : Words) (w : ℕ) where
+  -- ---- every row has a number
+
+  pub answer-numbered : numbered (answerRefusals l w) ≡ true
+  answer-numbered = numbered-append (shapeRefusals l) _ (shape-numbered l) refl
+
+  pub answer-verdict : answerOf l w ≡ verdictOf (answerRefusals l w)
+  unfolding answerOf
+  answer-verdict = refl
+
+  -- ---- the cases, in order
+
+  pub misshapen : (shapeOf l .number ≡ 0 → ⊥) → answerOf l w ≡ shapeOf l
+  unfolding answerOf shapeOf
+  misshapen f = onward verdict success (shapeRefusals l) _ ∙ refused-so verdict (shapeRefusals l) f _
+
+  module _ (shaped : shapeOf l .number ≡ 0) where
+    pub misplaced : badPosition (l .count) (positionOf w) ≡ true → answerOf l w ≡ verdict 20 0
+    unfolding answerOf
+    misplaced e =
+        onward verdict success (shapeRefusals l) _ ∙ all-missed verdict _ (shapeRefusals l) (none-of l shaped) ∙ hit verdict success 20 0 _ e
+
+    pub judged : (o : Object) → badPosition (l .count) (positionOf w) ≡ false → namedBy l w ≡ Known o → answerOf l w ≡ judgedOf o w
+    unfolding answerOf judgedOf
+    judged o e d =
+        onward verdict success (shapeRefusals l) _
+        ∙ all-missed verdict _ (shapeRefusals l) (none-of l shaped)
+        ∙ miss verdict success 20 0 _ e
+        ∙ rw d
+
+    -- a list whose shape passes has an object in every word
+    pub names-object : 1 ≤ positionOf w → positionOf w ≤ l .count → namedBy l w ≡ Known (objectOf (namedBy l w))
+    names-object h k = has-object (namedBy l w) (word-passes l (none-of l shaped) (positionOf w - 1) (omega arith) .0)

@@ -1,0 +1,57 @@
+-- A request to an object: the refusals in the order of their numbers, and the range of a voltage.
+-- Assumes nothing.
+use mathlib.Core.Path.{_≡_, ap, _∙_}
+use mathlib.Core.Bool.{Bool, true, false, not, _&&_}
+use Prim.Native.Nat.{ℕ, _<_, _≤_}
+use native.Mathlib.Omega.{arith}
+use lib.Dec.{leb}
+use borrow.Author.Tests.{le-leb, lt-leb}
+use Rattle.verdicts.specs.Refusals.{firstOf, verdict, success}
+use Rattle.verdicts.proofs.First.{hit, miss}
+use Rattle.objects.specs.declared.Object.{Object}
+use Rattle.requests.specs.Taking.{mismatchOf, requestOf}
+use Rattle.requests.specs.Limits.{reservedInRequest, within, voltageNotWhole, voltageOutside, operatingTooLarge, maximumTooLarge}
+use Rattle.requests.specs.Judging.{limitsOf, judgedOf}
+
+module _ (o : Object) (w : ℕ) where
+  pub reserved : reservedInRequest o w ≡ true → judgedOf o w ≡ verdict 21 0
+  unfolding judgedOf
+  reserved e = hit verdict success 21 0 _ e
+
+  pub unreserved : reservedInRequest o w ≡ false → judgedOf o w ≡ limitsOf o w
+  unfolding judgedOf limitsOf
+  unreserved e = miss verdict success 21 0 _ e
+
+  pub not-whole : voltageNotWhole o (requestOf o w) ≡ true → limitsOf o w ≡ verdict 23 0
+  unfolding limitsOf
+  not-whole e = hit verdict success 23 0 _ e
+
+  module _ (whole : voltageNotWhole o (requestOf o w) ≡ false) where
+    pub outside : voltageOutside o (requestOf o w) ≡ true → limitsOf o w ≡ verdict 22 0
+    unfolding limitsOf
+    outside e = miss verdict success 23 0 _ whole ∙ hit verdict success 22 0 _ e
+
+    module _ (inside : voltageOutside o (requestOf o w) ≡ false) where
+      pub over : operatingTooLarge o (requestOf o w) ≡ true → limitsOf o w ≡ verdict 24 0
+      unfolding limitsOf
+      over e = miss verdict success 23 0 _ whole ∙ miss verdict success 22 0 _ inside ∙ hit verdict success 24 0 _ e
+
+      pub allowed : operatingTooLarge o (requestOf o w) ≡ false → maximumTooLarge o (mismatchOf w) (requestOf o w) ≡ false → limitsOf o w ≡ success
+      unfolding limitsOf firstOf
+      allowed e f = rw (whole, inside, e, f)
+
+-- ---- a voltage and its range, in mV
+
+module _ (lowest highest mv : ℕ) where
+  pub under : mv < lowest → not (within lowest highest mv) ≡ true
+  under h = rw (lt-leb lowest mv h)
+
+  pub beyond : lowest ≤ mv → highest < mv → not (within lowest highest mv) ≡ true
+  beyond h k = rw (le-leb lowest mv h, lt-leb mv highest k)
+
+  pub inside-of : lowest ≤ mv → mv ≤ highest → not (within lowest highest mv) ≡ false
+  inside-of h k = rw (le-leb lowest mv h, le-leb mv highest k)
+
+-- PPS and AVS requests have no maximum figure
+pub no-maximum : (limit : ℕ) (mismatch : Bool) → (not (leb 0 limit) && not mismatch) ≡ false
+no-maximum limit mismatch = ap (λ (t : Bool). not t && not mismatch) (le-leb 0 limit (omega arith))

@@ -1,0 +1,40 @@
+-- The answer to a request (01, "Answering a request"; numbers and order from "Refusal numbers").
+-- Assumes nothing.
+use mathlib.Core.Bool.{Bool, _||_}
+use mathlib.Core.List.{List, [], _∷_, _++_}
+use Prim.Native.Nat.{ℕ, _-_}
+use lib.Dec.{ltb}
+use lib.ListN.{getD}
+use Rattle.verdicts.specs.declared.Verdict.{Verdict}
+use Rattle.verdicts.specs.Refusals.{Refusal, refusal, verdictOf}
+use Rattle.objects.specs.declared.Object.{Object}
+use Rattle.objects.specs.declared.Decoded.{Decoded}
+use Rattle.objects.specs.Asking.{ofObject}
+use Rattle.objects.specs.Decode.{decodeOf}
+use Rattle.lists.specs.declared.Words.{Words}
+use Rattle.lists.specs.Shape.{shapeRefusals}
+use Rattle.requests.specs.Taking.{positionOf, mismatchOf, requestOf}
+use Rattle.requests.specs.Limits.{reservedInRequest, voltageNotWhole, voltageOutside, operatingTooLarge, maximumTooLarge}
+
+-- 20: "position not 1..count"
+abbrev pub badPosition : ℕ → ℕ → Bool
+badPosition count position = ltb position 1 || ltb count position
+
+-- the word that a request names by its position
+abbrev pub namedBy : Words → ℕ → Decoded
+namedBy l w = decodeOf (getD (l .words) (positionOf w - 1) 0)
+
+-- "Requests check the shape of the list first, then 20, 21, 23, 22, 24, 25." The place is 0 for all of these.
+abbrev pub answerRefusals : Words → ℕ → List Refusal
+answerRefusals l w =
+    shapeRefusals l
+    ++ (refusal (badPosition (l .count) (positionOf w)) 20 0
+    ∷ refusal (ofObject (λ (o : Object). reservedInRequest o w) (namedBy l w)) 21 0
+    ∷ refusal (ofObject (λ (o : Object). voltageNotWhole o (requestOf o w)) (namedBy l w)) 23 0
+    ∷ refusal (ofObject (λ (o : Object). voltageOutside o (requestOf o w)) (namedBy l w)) 22 0
+    ∷ refusal (ofObject (λ (o : Object). operatingTooLarge o (requestOf o w)) (namedBy l w)) 24 0
+    ∷ refusal (ofObject (λ (o : Object). maximumTooLarge o (mismatchOf w) (requestOf o w)) (namedBy l w)) 25 0
+    ∷ [])
+
+unfoldable pub answerOf : Words → ℕ → Verdict
+answerOf l w = verdictOf (answerRefusals l w)

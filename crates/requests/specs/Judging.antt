@@ -1,0 +1,33 @@
+-- A request judged by the object that it names: parts of `answerOf`, named for the functions that work them out.
+-- Assumes nothing.
+use mathlib.Core.Bool.{Bool, not, _&&_}
+use mathlib.Core.List.{List, [], _∷_}
+use Prim.Native.Nat.{ℕ}
+use lib.Dec.{ltb}
+use Rattle.verdicts.specs.declared.Verdict.{Verdict}
+use Rattle.verdicts.specs.Refusals.{Refusal, refusal, verdictOf}
+use Rattle.objects.specs.declared.Object.{Object}
+use Rattle.requests.specs.declared.Request.{Request}
+use Rattle.requests.specs.Taking.{mismatchOf, operatingIn, maximumIn, requestOf}
+use Rattle.requests.specs.Limits.{reservedInRequest, voltageNotWhole, voltageOutside, operatingTooLarge, maximumTooLarge}
+
+-- "23, 22, 24, 25", of a request that is taken apart
+abbrev pub limitRows : Object → Bool → Request → List Refusal
+limitRows o mismatch r =
+    refusal (voltageNotWhole o r) 23 0
+    ∷ refusal (voltageOutside o r) 22 0
+    ∷ refusal (operatingTooLarge o r) 24 0
+    ∷ refusal (maximumTooLarge o mismatch r) 25 0
+    ∷ []
+
+unfoldable pub limitsOf : Object → ℕ → Verdict
+limitsOf o w = verdictOf (limitRows o (mismatchOf w) (requestOf o w))
+
+unfoldable pub judgedOf : Object → ℕ → Verdict
+judgedOf o w = verdictOf (refusal (reservedInRequest o w) 21 0 ∷ limitRows o (mismatchOf w) (requestOf o w))
+
+-- two figures and the advertised one, all in one step
+unfoldable pub figuresOf : ℕ → ℕ → Verdict
+figuresOf advertised w =
+    verdictOf
+    (refusal (ltb advertised (operatingIn w)) 24 0 ∷ refusal (ltb advertised (maximumIn w) && not (mismatchOf w)) 25 0 ∷ [])

@@ -1,0 +1,34 @@
+// The answer to a request, on the list that was offered.
+ghost use Rattle.requests.specs.Promises.{AnswersRequest};
+use crate::judging::judge;
+use crate::judging::placeless;
+use crate::taking::position;
+use lists::Words;
+use objects::Decoded;
+use verdicts::Verdict;
+
+// The first refusal, or success. The shape of the list comes first, with its own numbers and places.
+pub fn answer(list: Words, word: u32) -> Verdict
+    ensures { λ r. ⌜ AnswersRequest list word r ⌝ }
+{
+    let shape = lists::shape(list);
+    if shape.number != verdicts::SUCCESS {
+        return shape;
+    }
+    let named = position(word);
+    if named < 1 {
+        return placeless(verdicts::POSITION);
+    }
+    let count = list.count;
+    if count < named {
+        return placeless(verdicts::POSITION);
+    }
+    let at = (named - 1) as usize;
+    let w = list.words[at];
+    let d = objects::decode(w);
+    let Decoded::Known(o) = d else {
+        // A list whose shape passes has an object in every word: the proof shows that this is never reached.
+        return placeless(verdicts::KIND_NOT_ALLOWED);
+    };
+    judge(o, word)
+}

@@ -1,0 +1,180 @@
+// The limits of each kind. Figures are compared in the cheapest step; the definitions speak of mV and mA.
+ghost use mathlib.Core.Path.{_≡_};
+ghost use Rattle.verdicts.specs.Refusals.{verdict};
+ghost use Rattle.steps.specs.Units.{mv25, ma10};
+ghost use Rattle.requests.specs.Limits.{besideFigures, besideVoltage, bitSet, reservedInRequest, avsTop, avsLimit};
+ghost use Rattle.requests.specs.Judging.{figuresOf, limitsOf, judgedOf};
+use crate::taking::avs_volts;
+use crate::taking::current;
+use crate::taking::maximum;
+use crate::taking::mismatch;
+use crate::taking::operating;
+use crate::taking::pps_volts;
+use objects::Object;
+use steps::Ma10;
+use steps::Ma50;
+use steps::Mv25;
+use steps::Mv100;
+use verdicts::Verdict;
+
+// No answer to a request has a place of its own.
+pub(crate) fn placeless(number: u8) -> Verdict
+    ensures { λ r. ⌜ r ≡ verdict number 0 ⌝ }
+{
+    Verdict { number, place: 0 }
+}
+
+// A reserved bit beside two figures: 27, 21 or 20.
+fn set_beside_figures(word: u32) -> bool
+    ensures { λ r. ⌜ r ≡ bitSet word besideFigures ⌝ }
+{
+    if (word >> 27) & 0x1 != 0 {
+        return true;
+    }
+    if (word >> 21) & 0x1 != 0 {
+        return true;
+    }
+    (word >> 20) & 0x1 != 0
+}
+
+// A reserved bit beside a voltage and a current: 27, 21, 8 or 7.
+fn set_beside_voltage(word: u32) -> bool
+    ensures { λ r. ⌜ r ≡ bitSet word besideVoltage ⌝ }
+{
+    if (word >> 27) & 0x1 != 0 {
+        return true;
+    }
+    if (word >> 21) & 0x1 != 0 {
+        return true;
+    }
+    if (word >> 8) & 0x1 != 0 {
+        return true;
+    }
+    (word >> 7) & 0x1 != 0
+}
+
+fn reserved_bit_set(o: Object, word: u32) -> bool
+    ensures { λ r. ⌜ r ≡ reservedInRequest o word ⌝ }
+{
+    match o {
+        Object::Fixed { .. } => set_beside_figures(word),
+        Object::Battery { .. } => set_beside_figures(word),
+        Object::Variable { .. } => set_beside_figures(word),
+        Object::Pps { .. } => set_beside_voltage(word),
+        Object::Avs { .. } => set_beside_voltage(word),
+    }
+}
+
+// Fixed, battery and variable: the operating and the maximum figure, in the step of the advertised one.
+fn judge_figures(advertised: u16, word: u32) -> Verdict
+    ensures { λ r. ⌜ r ≡ figuresOf advertised word ⌝ }
+{
+    if advertised < operating(word) {
+        return placeless(verdicts::OPERATING_TOO_LARGE);
+    }
+    if mismatch(word) {
+        return placeless(verdicts::SUCCESS);
+    }
+    if advertised < maximum(word) {
+        return placeless(verdicts::MAXIMUM_TOO_LARGE);
+    }
+    placeless(verdicts::SUCCESS)
+}
+
+// A step of 100 mV is five of 20 mV.
+fn judge_pps(min: Mv100, max: Mv100, limit: Ma50, word: u32) -> Verdict
+    ensures { λ r. ⌜ r ≡ limitsOf (Object.Pps 0 max min limit) word ⌝ }
+{
+    let volts = pps_volts(word);
+    if (volts.0 as u32) < (min.0 as u32) * 5 {
+        return placeless(verdicts::VOLTAGE_OUTSIDE);
+    }
+    if (max.0 as u32) * 5 < (volts.0 as u32) {
+        return placeless(verdicts::VOLTAGE_OUTSIDE);
+    }
+    let asked = current(word);
+    if limit.0 < asked.0 {
+        return placeless(verdicts::OPERATING_TOO_LARGE);
+    }
+    placeless(verdicts::SUCCESS)
+}
+
+// Where the range ends: at 15.0 V without a second current, else at 20.0 V.
+fn avs_top(high: Ma10) -> Mv25
+    ensures { λ r. ⌜ mv25 r ≡ avsTop high ⌝ }
+{
+    if high.0 == 0 {
+        return Mv25(600);
+    }
+    Mv25(800)
+}
+
+// 15.0 V is 600 steps of 25 mV. There both ranges hold, and the larger current limits.
+fn avs_limit(low: Ma10, high: Ma10, volts: Mv25) -> Ma10
+    ensures { λ r. ⌜ ma10 r ≡ avsLimit (mv25 volts) (ma10 low) (ma10 high) ⌝ }
+{
+    if volts.0 < 600 {
+        return low;
+    }
+    if 600 < volts.0 {
+        return high;
+    }
+    if low.0 < high.0 {
+        return high;
+    }
+    low
+}
+
+// 100 mV is four steps of 25 mV, 9.0 V is 360 of them; a step of 50 mA is five of 10 mA.
+fn judge_avs(low: Ma10, high: Ma10, word: u32) -> Verdict
+    ensures { λ r. ⌜ r ≡ limitsOf (Object.Avs 0 low high) word ⌝ }
+{
+    let volts = avs_volts(word);
+    if volts.0 % 4 != 0 {
+        return placeless(verdicts::AVS_VOLTAGE_NOT_WHOLE);
+    }
+    if volts.0 < 360 {
+        return placeless(verdicts::VOLTAGE_OUTSIDE);
+    }
+    let top = avs_top(high);
+    if top.0 < volts.0 {
+        return placeless(verdicts::VOLTAGE_OUTSIDE);
+    }
+    let limit = avs_limit(low, high, volts);
+    let asked = current(word);
+    if (limit.0 as u32) < (asked.0 as u32) * 5 {
+        return placeless(verdicts::OPERATING_TOO_LARGE);
+    }
+    placeless(verdicts::SUCCESS)
+}
+
+// A request judged by the object that it names, with that kind's limits.
+pub(crate) fn judge(o: Object, word: u32) -> Verdict
+    ensures { λ r. ⌜ r ≡ judgedOf o word ⌝ }
+{
+    if reserved_bit_set(o, word) {
+        return placeless(verdicts::RESERVED_BIT_IN_REQUEST);
+    }
+    if let Object::Fixed { current, .. } = o {
+        return judge_figures(current.0, word);
+    }
+    if let Object::Battery { power, .. } = o {
+        return judge_figures(power.0, word);
+    }
+    if let Object::Variable { current, .. } = o {
+        return judge_figures(current.0, word);
+    }
+    if let Object::Pps {
+        max,
+        min,
+        current,
+        ..
+    } = o {
+        return judge_pps(min, max, current, word);
+    }
+    let Object::Avs { low, high, .. } = o else {
+        // There is no sixth kind: the proof shows that this is never reached.
+        return placeless(verdicts::KIND_NOT_ALLOWED);
+    };
+    judge_avs(low, high, word)
+}

@@ -1,0 +1,97 @@
+// A request word taken apart. Every bit place of a request stands here and, for reserved bits, in judging.rt.
+ghost use mathlib.Core.Path.{_≡_};
+ghost use Rattle.requests.specs.Taking.{positionOf, mismatchOf, operatingIn, maximumIn, ppsVolts, avsVolts, currentIn, requestOf};
+ghost use Rattle.requests.specs.Promises.{TakesApart};
+use crate::Asked;
+use crate::Request;
+use objects::Object;
+use steps::Ma10;
+use steps::Ma50;
+use steps::Mv20;
+use steps::Mv25;
+use steps::Mw250;
+
+pub(crate) fn position(word: u32) -> u8
+    ensures { λ r. ⌜ r ≡ positionOf word ⌝ }
+{
+    ((word >> 28) & 0xF) as u8
+}
+
+pub(crate) fn mismatch(word: u32) -> bool
+    ensures { λ r. ⌜ r ≡ mismatchOf word ⌝ }
+{
+    (word >> 26) & 0x1 != 0
+}
+
+// Fixed, battery and variable, in the step of the object.
+pub(crate) fn operating(word: u32) -> u16
+    ensures { λ r. ⌜ r ≡ operatingIn word ⌝ }
+{
+    ((word >> 10) & 0x3FF) as u16
+}
+
+pub(crate) fn maximum(word: u32) -> u16
+    ensures { λ r. ⌜ r ≡ maximumIn word ⌝ }
+{
+    (word & 0x3FF) as u16
+}
+
+// PPS and AVS share their bit places, but not the step of the voltage.
+pub(crate) fn pps_volts(word: u32) -> Mv20
+    ensures { λ r. ⌜ r ≡ ppsVolts word ⌝ }
+{
+    Mv20(((word >> 9) & 0xFFF) as u16)
+}
+
+pub(crate) fn avs_volts(word: u32) -> Mv25
+    ensures { λ r. ⌜ r ≡ avsVolts word ⌝ }
+{
+    Mv25(((word >> 9) & 0xFFF) as u16)
+}
+
+pub(crate) fn current(word: u32) -> Ma50
+    ensures { λ r. ⌜ r ≡ currentIn word ⌝ }
+{
+    Ma50((word & 0x7F) as u16)
+}
+
+fn requested(o: Object, word: u32) -> Request
+    ensures { λ r. ⌜ r ≡ requestOf o word ⌝ }
+{
+    match o {
+        Object::Fixed { .. } => Request::Fixed {
+            operating: Ma10(operating(word)),
+            maximum: Ma10(maximum(word)),
+        },
+        Object::Battery { .. } => Request::Battery {
+            operating: Mw250(operating(word)),
+            maximum: Mw250(maximum(word)),
+        },
+        Object::Variable { .. } => Request::Variable {
+            operating: Ma10(operating(word)),
+            maximum: Ma10(maximum(word)),
+        },
+        Object::Pps { .. } => Request::Pps {
+            volts: pps_volts(word),
+            current: current(word),
+        },
+        Object::Avs { .. } => Request::Avs {
+            volts: avs_volts(word),
+            current: current(word),
+        },
+    }
+}
+
+// What a request word says to an object. Nothing is refused here: `answer` does that.
+pub fn take_apart(o: Object, word: u32) -> Asked
+    ensures { λ r. ⌜ TakesApart o word r ⌝ }
+{
+    let position = position(word);
+    let mismatch = mismatch(word);
+    let request = requested(o, word);
+    Asked {
+        position,
+        mismatch,
+        request,
+    }
+}
