@@ -7,6 +7,7 @@ use Prim.Native.Nat.{ℕ, _+_, _≤_, _<_}
 use lib.Dec.{ltb}
 use lib.ListN.{getD}
 use borrow.Author.Tests.{lt-ltb, le-ltb, ltb-true, ltb-false}
+use Rattle.verdicts.proofs.Bools.{either-false}
 use Rattle.verdicts.specs.declared.Verdict.{Verdict}
 use Rattle.verdicts.specs.Refusals.{Refusal, refusal, eachPlace, firstOf, verdict, success, verdictOf}
 use Rattle.verdicts.proofs.First.{hit, miss, onward, NoneApply, numbered, numbered-append, numbered-places, none-applied, none-left, none-right, none-at}
@@ -24,15 +25,11 @@ too-many n h k = rw (le-ltb n 1 h, lt-ltb 7 n k)
 pub counted : (n : ℕ) → 1 ≤ n → n ≤ 7 → badCount n ≡ false
 counted n h k = rw (le-ltb n 1 h, le-ltb 7 n k)
 
-or-false : (a b : Bool) → (a || b) ≡ false → (a ≡ false) × (b ≡ false)
-or-false true b e = let z : true ≡ false = e in ((cc), (cc))
-or-false false b e = (refl, e)
-
 pub count-low : (n : ℕ) → badCount n ≡ false → 1 ≤ n
-count-low n e = ltb-false n 1 (or-false (ltb n 1) (ltb 7 n) e .0)
+count-low n e = ltb-false n 1 (either-false (ltb n 1) (ltb 7 n) e .0)
 
 pub count-high : (n : ℕ) → badCount n ≡ false → n ≤ 7
-count-high n e = ltb-false 7 n (or-false (ltb n 1) (ltb 7 n) e .1)
+count-high n e = ltb-false 7 n (either-false (ltb n 1) (ltb 7 n) e .1)
 
 -- ---- the cases, in order
 

@@ -9,6 +9,8 @@ use Prim.Native.Nat.{ℕ, _*_, _%_, _<_, _≤_, max}
 use native.Mathlib.Omega.{arith}
 use lib.Dec.{leb, eqb}
 use borrow.Author.Tests.{eq-eqb, eqb-true, eqb-false, le-leb, lt-leb, leb-true, leb-false}
+use Rattle.steps.specs.Ranges.{within}
+use Rattle.steps.proofs.RangeLaws.{inside}
 use Rattle.verdicts.specs.declared.Verdict.{Verdict}
 use Rattle.verdicts.specs.Refusals.{verdict, success}
 use Rattle.steps.specs.Units.{mv25, ma10, ma50}
@@ -18,10 +20,10 @@ use Rattle.objects.specs.declared.Decoded.the-variants.{Known}
 use Rattle.lists.specs.declared.Words.{Words}
 use Rattle.lists.specs.Shape.{shapeOf}
 use Rattle.requests.specs.Taking.{positionOf, mismatchOf, avsVolts, currentIn}
-use Rattle.requests.specs.Limits.{reservedInRequest, within, avsTop, avsLimit}
+use Rattle.requests.specs.Limits.{reservedInRequest, avsTop, avsLimit}
 use Rattle.requests.specs.Answering.{namedBy, answerOf}
 use Rattle.requests.specs.Judging.{limitsOf}
-use Rattle.requests.proofs.Limits.{unreserved, over, allowed, inside-of, no-maximum}
+use Rattle.requests.proofs.Limits.{unreserved, over, allowed, no-maximum}
 use Rattle.requests.proofs.AvsLimits.{ends-at-15-V, ends-at-20-V, limit-below, limit-above, limit-at}
 use Rattle.requests.proofs.Answers.{position-good, judged}
 
@@ -64,20 +66,20 @@ module _ (l : Words) (w : ℕ) (low high : Ma10) (asks : AsksAvs l w low high) w
     whole-step : not (eqb (mv25 (avsVolts w) % 100) 0) ≡ false
     whole-step = ap not (eq-eqb (mv25 (avsVolts w) % 100) 0 whole)
 
-    inside : not (within 9000 (avsTop high) (mv25 (avsVolts w))) ≡ false
-    inside = inside-of 9000 (avsTop high) (mv25 (avsVolts w)) from to
+    in-range : not (within 9000 (avsTop high) (mv25 (avsVolts w))) ≡ false
+    in-range = inside 9000 (avsTop high) (mv25 (avsVolts w)) from to
 
     accepts : ma50 (currentIn w) ≤ limit → answerOf l w ≡ success
     accepts h =
         let at-most = avsLimit (mv25 (avsVolts w)) (ma10 low) (ma10 high) in
         by-limits
-        ∙ allowed (Avs (asks .peak) low high) w whole-step inside (ap not (le-leb (ma50 (currentIn w)) at-most (omega arith)))
+        ∙ allowed (Avs (asks .peak) low high) w whole-step in-range (ap not (le-leb (ma50 (currentIn w)) at-most (omega arith)))
         (no-maximum at-most (mismatchOf w))
 
     refuses : limit < ma50 (currentIn w) → answerOf l w ≡ verdict 24 0
     refuses h =
         let at-most = avsLimit (mv25 (avsVolts w)) (ma10 low) (ma10 high) in
-        by-limits ∙ over (Avs (asks .peak) low high) w whole-step inside (ap not (lt-leb (ma50 (currentIn w)) at-most (omega arith)))
+        by-limits ∙ over (Avs (asks .peak) low high) w whole-step in-range (ap not (lt-leb (ma50 (currentIn w)) at-most (omega arith)))
 
     up-to : AllowsUpTo l w limit
     up-to = record { accepted = decides (answerOf l w) (ma50 (currentIn w)) limit accepts refuses; refused = refuses }

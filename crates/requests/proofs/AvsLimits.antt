@@ -7,15 +7,17 @@ use native.Mathlib.Nat.{mul-mod-left}
 use native.Mathlib.Omega.{arith}
 use lib.Dec.{eqb}
 use borrow.Author.Tests.{lt-ltb, le-ltb, le-leb, lt-leb, eq-eqb, ne-eqb}
+use Rattle.steps.specs.Ranges.{within}
+use Rattle.steps.proofs.RangeLaws.{too-low, too-high, inside}
 use Rattle.verdicts.specs.Refusals.{verdict, success}
 use Rattle.steps.specs.Units.{ma10}
 use Rattle.steps.specs.declared.Ma10.{Ma10}
 use Rattle.objects.specs.Bits.{bits}
 use Rattle.objects.specs.declared.Object.the-variants.{Avs}
 use Rattle.requests.specs.Taking.{mismatchOf}
-use Rattle.requests.specs.Limits.{avsTop, avsLimit, within}
+use Rattle.requests.specs.Limits.{avsTop, avsLimit}
 use Rattle.requests.specs.Judging.{limitsOf}
-use Rattle.requests.proofs.Limits.{not-whole, outside, over, allowed, under, beyond, inside-of, no-maximum}
+use Rattle.requests.proofs.Limits.{not-whole, outside, over, allowed, no-maximum}
 
 -- 100 mV is four steps of 25 mV
 pub whole-100 : (v : ℕ) → v % 4 ≡ 0 → not (eqb (v * 25 % 100) 0) ≡ false
@@ -62,15 +64,15 @@ module _ (p : ℕ) (low high : Ma10) (w v : ℕ) (ev : v ≡ bits w 20 9) where
     avs-whole = whole-100 (bits w 20 9) (ap (λ (n : ℕ). n % 4) (sym ev) ∙ whole)
 
     pub avs-under : v < 360 → limitsOf (Avs p low high) w ≡ verdict 22 0
-    avs-under h = outside (Avs p low high) w avs-whole (under 9000 (avsTop high) (bits w 20 9 * 25) (omega arith))
+    avs-under h = outside (Avs p low high) w avs-whole (too-low 9000 (avsTop high) (bits w 20 9 * 25) (omega arith))
 
     module _ (from : 360 ≤ v) (t : ℕ) (top : t * 25 ≡ avsTop high) where
       pub avs-beyond : t < v → limitsOf (Avs p low high) w ≡ verdict 22 0
-      avs-beyond h = outside (Avs p low high) w avs-whole (beyond 9000 (avsTop high) (bits w 20 9 * 25) (omega arith) (omega arith))
+      avs-beyond h = outside (Avs p low high) w avs-whole (too-high 9000 (avsTop high) (bits w 20 9 * 25) (omega arith) (omega arith))
 
       module _ (to : v ≤ t) (x i : ℕ) (limit : x * 10 ≡ avsLimit (v * 25) (ma10 low) (ma10 high)) (ei : i ≡ bits w 6 0) where
         avs-inside : not (within 9000 (avsTop high) (bits w 20 9 * 25)) ≡ false
-        avs-inside = inside-of 9000 (avsTop high) (bits w 20 9 * 25) (omega arith) (omega arith)
+        avs-inside = inside 9000 (avsTop high) (bits w 20 9 * 25) (omega arith) (omega arith)
 
         avs-limit : x * 10 ≡ avsLimit (bits w 20 9 * 25) (ma10 low) (ma10 high)
         avs-limit = limit ∙ ap (λ (n : ℕ). avsLimit (n * 25) (ma10 low) (ma10 high)) ev

@@ -10,7 +10,7 @@ use Rattle.verdicts.specs.Refusals.{firstOf, verdict, success}
 use Rattle.verdicts.proofs.First.{hit, miss}
 use Rattle.objects.specs.declared.Object.{Object}
 use Rattle.requests.specs.Taking.{mismatchOf, requestOf}
-use Rattle.requests.specs.Limits.{reservedInRequest, within, voltageNotWhole, voltageOutside, operatingTooLarge, maximumTooLarge}
+use Rattle.requests.specs.Limits.{reservedInRequest, voltageNotWhole, voltageOutside, operatingTooLarge, maximumTooLarge}
 use Rattle.requests.specs.Judging.{limitsOf, judgedOf}
 
 module _ (o : Object) (w : ℕ) where
@@ -39,18 +39,6 @@ module _ (o : Object) (w : ℕ) where
       pub allowed : operatingTooLarge o (requestOf o w) ≡ false → maximumTooLarge o (mismatchOf w) (requestOf o w) ≡ false → limitsOf o w ≡ success
       unfolding limitsOf firstOf
       allowed e f = rw (whole, inside, e, f)
-
--- ---- a voltage and its range, in mV
-
-module _ (lowest highest mv : ℕ) where
-  pub under : mv < lowest → not (within lowest highest mv) ≡ true
-  under h = rw (lt-leb lowest mv h)
-
-  pub beyond : lowest ≤ mv → highest < mv → not (within lowest highest mv) ≡ true
-  beyond h k = rw (le-leb lowest mv h, lt-leb mv highest k)
-
-  pub inside-of : lowest ≤ mv → mv ≤ highest → not (within lowest highest mv) ≡ false
-  inside-of h k = rw (le-leb lowest mv h, le-leb mv highest k)
 
 -- PPS and AVS requests have no maximum figure
 pub no-maximum : (limit : ℕ) (mismatch : Bool) → (not (leb 0 limit) && not mismatch) ≡ false

@@ -4,6 +4,7 @@ use mathlib.Core.Bool.{Bool, true, not, _&&_, cond}
 use mathlib.Core.List.{List, [], _∷_}
 use Prim.Native.Nat.{ℕ, _%_, max}
 use lib.Dec.{leb, ltb, eqb}
+use Rattle.steps.specs.Ranges.{within}
 use Rattle.steps.specs.Units.{mv20, mv25, mv100, ma10, ma50, mw250}
 use Rattle.steps.specs.declared.Ma10.{Ma10}
 use Rattle.objects.specs.Decode.{clear}
@@ -83,10 +84,6 @@ advertisedAt (Battery x m p) mv = mw250 p
 advertisedAt (Variable x m a) mv = ma10 a
 advertisedAt (Pps l x m a) mv = ma50 a
 advertisedAt (Avs p l h) mv = avsLimit mv (ma10 l) (ma10 h)
-
--- from the lowest to the highest, both allowed
-abbrev pub within : ℕ → ℕ → ℕ → Bool
-within lowest highest mv = leb lowest mv && leb mv highest
 
 -- "PPS voltage lies from min to max, AVS voltage from 9.0 V to 15.0 or 20.0 V."
 abbrev pub inRange : Object → ℕ → Bool

@@ -9,8 +9,10 @@ use borrow.Author.Tests.{ltb-false, eqb-true}
 use Rattle.verdicts.specs.Refusals.{Refusal, refusal, firstOf, verdict, success, verdictOf}
 use Rattle.verdicts.proofs.First.{NoneApply, hit, miss, all-missed, numbered}
 use Rattle.rules.specs.declared.Profile.{Profile}
-use Rattle.rules.specs.Profiles.{within, badCable, profileRows, profileRefusals}
-use Rattle.rules.proofs.Tests.{at-least, at-most, either-false}
+use Rattle.rules.specs.Profiles.{badCable, profileRows, profileRefusals}
+use Rattle.steps.specs.Ranges.{within}
+use Rattle.steps.proofs.RangeLaws.{at-least, at-most}
+use Rattle.verdicts.proofs.Bools.{either-false}
 
 module _ (m p cable rounding pps flags : ℕ) where
   pub fault-1 : not (within 1 200 m) ≡ true → verdictOf (profileRows m p cable rounding pps flags) ≡ verdict 1 0

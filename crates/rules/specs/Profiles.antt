@@ -3,14 +3,12 @@
 use mathlib.Core.Bool.{Bool, true, false, not, _&&_, _||_}
 use mathlib.Core.List.{List, [], _∷_, _++_}
 use Prim.Native.Nat.{ℕ}
-use lib.Dec.{leb, ltb, eqb}
+use lib.Dec.{ltb, eqb}
 use Rattle.verdicts.specs.Refusals.{Refusal, refusal, firstOf, verdict, success}
+use Rattle.steps.specs.Ranges.{within}
 use Rattle.steps.specs.declared.HalfWatts.{HalfWatts}
 use Rattle.rules.specs.declared.Profile.{Profile}
 use Rattle.rules.specs.declared.Profiled.{Profiled}
-
-abbrev pub within : ℕ → ℕ → ℕ → Bool
-within low high n = leb low n && leb n high
 
 -- 3: "cable not 3 or 5"
 abbrev pub badCable : ℕ → Bool

@@ -1,3 +1,4 @@
 pub mod RoundingLaws
 pub mod ConversionLaws
+pub mod RangeLaws
 pub mod StepTests

@@ -1,4 +1,5 @@
 pub mod Units
+pub mod Ranges
 pub mod Rounding
 pub mod Measure
 pub mod Promises

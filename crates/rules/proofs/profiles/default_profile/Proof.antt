@@ -13,7 +13,7 @@ use Rattle.verdicts.proofs.First.{hit, miss}
 use Rattle.rules.specs.declared.Profiled.{Profiled}
 use Rattle.rules.specs.Profiles.{profileRefused, defaults, defaultOf}
 use Rattle.verdicts.proofs.First.{all-missed}
-use Rattle.rules.proofs.Tests.{too-low, too-high, inside}
+use Rattle.steps.proofs.RangeLaws.{too-low, too-high, inside}
 use borrow.Author.Needs.{needs}
 use Rattle.rules.proofs.profiles.default_profile.Statement.{statement}
 use Rattle.rules.proofs.profiles.default_profile.Tie as tie

@@ -10,8 +10,9 @@ use mathlib.Core.List.{List, [], _∷_}
 use Rattle.verdicts.specs.declared.Verdict.{Verdict}
 use Rattle.verdicts.specs.Refusals.{Refusal, verdict, success, verdictOf}
 use Rattle.verdicts.proofs.First.{hit, miss}
-use Rattle.rules.specs.Profiles.{within, badCable}
-use Rattle.rules.proofs.Tests.{too-low, too-high, inside}
+use Rattle.rules.specs.Profiles.{badCable}
+use Rattle.steps.specs.Ranges.{within}
+use Rattle.steps.proofs.RangeLaws.{too-low, too-high, inside}
 use Rattle.rules.proofs.ProfileCases.{fault-1, fault-2, fault-3, fault-4, fault-5, no-fault}
 use borrow.Author.Needs.{needs}
 use Rattle.rules.proofs.profiles.profile_fault.Statement.{statement}
