@@ -61,19 +61,29 @@ enum-told-5 : tie.Need-enum-told-5
 enum-told-5 c = search needs
 
 returns-3 : tie.Need-returns-3
-returns-3 c = ap (λ (x : Object). keysMayFollow x (c .before .before .before .key .result) (c .before .before .key2 .result)) (sym (c .enum-told .given .1)) ∙ by-keys (c .before .before)
+returns-3 c =
+    ap (λ (x : Object). keysMayFollow x (c .before .before .before .key .result) (c .before .before .key2 .result)) (sym (c .enum-told .given .1))
+    ∙ by-keys (c .before .before)
 
 returns-4 : tie.Need-returns-4
-returns-4 c = ap (λ (x : Object). keysMayFollow x (c .before .before .before .key .result) (c .before .before .key2 .result)) (sym (c .enum-told2 .given .1)) ∙ by-keys (c .before .before)
+returns-4 c =
+    ap (λ (x : Object). keysMayFollow x (c .before .before .before .key .result) (c .before .before .key2 .result)) (sym (c .enum-told2 .given .1))
+    ∙ by-keys (c .before .before)
 
 returns-5 : tie.Need-returns-5
-returns-5 c = ap (λ (x : Object). keysMayFollow x (c .before .before .before .key .result) (c .before .before .key2 .result)) (sym (c .enum-told3 .given .1)) ∙ by-keys (c .before .before)
+returns-5 c =
+    ap (λ (x : Object). keysMayFollow x (c .before .before .before .key .result) (c .before .before .key2 .result)) (sym (c .enum-told3 .given .1))
+    ∙ by-keys (c .before .before)
 
 returns-6 : tie.Need-returns-6
-returns-6 c = ap (λ (x : Object). keysMayFollow x (c .before .before .before .key .result) (c .before .before .key2 .result)) (sym (c .enum-told4 .given .1)) ∙ by-keys (c .before .before)
+returns-6 c =
+    ap (λ (x : Object). keysMayFollow x (c .before .before .before .key .result) (c .before .before .key2 .result)) (sym (c .enum-told4 .given .1))
+    ∙ by-keys (c .before .before)
 
 returns-7 : tie.Need-returns-7
-returns-7 c = ap (λ (x : Object). keysMayFollow x (c .before .before .before .key .result) (c .before .before .key2 .result)) (sym (c .enum-told5 .given .1)) ∙ by-keys (c .before .before)
+returns-7 c =
+    ap (λ (x : Object). keysMayFollow x (c .before .before .before .key .result) (c .before .before .key2 .result)) (sym (c .enum-told5 .given .1))
+    ∙ by-keys (c .before .before)
 
 pub may-follow-spec : {M : Type 1} → statement M
 may-follow-spec =

@@ -82,7 +82,8 @@ returns-7 c =
     let m = c .before .before .before .before .before .o4 .given .0 .1 .1 .0 .0 in
     rw (c .before .before .before .before .before .o4 .given .1)
     (past 100 x m (omega arith)
-    ∙ sym (not-second (leb (x * 100) 21000) (leb (m * 100) (x * 100)) (sym (past 100 210 x (omega arith)) ∙ le-ltb _ _ (c .before .before .if3 .left))))
+    ∙ sym (not-second (leb (x * 100) 21000) (leb (m * 100) (x * 100))
+    (sym (past 100 210 x (omega arith)) ∙ le-ltb _ _ (c .before .before .if3 .left))))
 
 returns-8 : tie.Need-returns-8
 unfolding outOfBounds

@@ -38,7 +38,8 @@ unfolding avsDiffers
 returns-3 c =
     rw (c .before .before .before .before .before .before .o .given .1)
     (ap not (c .has-fixed2 .ensures)
-    ∙ sym (by-20-V _ _ _ _ (sym (c .before .before .before .before .has-fixed .ensures) ∙ c .before .before .before .if1 .taken) (c .before .if2 .left)))
+    ∙ sym (by-20-V _ _ _ _ (sym (c .before .before .before .before .has-fixed .ensures) ∙ c .before .before .before .if1 .taken)
+    (c .before .if2 .left)))
 
 returns-4 : tie.Need-returns-4
 unfolding avsDiffers

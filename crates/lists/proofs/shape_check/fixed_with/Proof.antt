@@ -55,15 +55,18 @@ returns-3 c =
     let o = c .before .before .before .before .o .given in
     let v = o .0 .1 .1 .0 .0 in
     sym (ap (ofObject (fixedWith (mv50 (x .volts)) (x .current))) (known (c .before .before .before .before .before .before) ∙ ap Known (o .1))
-    ∙ ap (λ (b : Bool). b && eqb (o .0 .1 .1 .1 .0 .0) (x .current .0)) (sym (at 50 (x .volts .0) v (omega arith)) ∙ ne-eqb v (x .volts .0) (c .if1 .taken)))
+    ∙ ap (λ (b : Bool). b && eqb (o .0 .1 .1 .1 .0 .0) (x .current .0))
+    (sym (at 50 (x .volts .0) v (omega arith)) ∙ ne-eqb v (x .volts .0) (c .if1 .taken)))
 
 returns-4 : tie.Need-returns-4
 returns-4 c =
     let x = c .before .before .before .before .before .before .before .before .before .before .before .before .args in
     let o = c .before .before .before .before .before .before .o .given in
     let v = o .0 .1 .1 .0 .0 in
-    sym (ap (ofObject (fixedWith (mv50 (x .volts)) (x .current))) (known (c .before .before .before .before .before .before .before .before) ∙ ap Known (o .1))
-    ∙ ap (λ (b : Bool). b && eqb (o .0 .1 .1 .1 .0 .0) (x .current .0)) (sym (at 50 (x .volts .0) v (omega arith)) ∙ eq-eqb v (x .volts .0) (c .before .before .if1 .left)))
+    sym (ap (ofObject (fixedWith (mv50 (x .volts)) (x .current)))
+    (known (c .before .before .before .before .before .before .before .before) ∙ ap Known (o .1))
+    ∙ ap (λ (b : Bool). b && eqb (o .0 .1 .1 .1 .0 .0) (x .current .0))
+    (sym (at 50 (x .volts .0) v (omega arith)) ∙ eq-eqb v (x .volts .0) (c .before .before .if1 .left)))
 
 pub fixed-with-spec : {M : Type 1} → statement M
 fixed-with-spec =

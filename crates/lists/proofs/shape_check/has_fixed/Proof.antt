@@ -35,7 +35,8 @@ fixed-with-requires c κs = search needs
 returns : tie.Need-returns Inv-loop μ-loop
 returns c =
     let x = c .before .before .before .before .before .args in
-    sym (found-at (x .t1 .words) (mv50 (x .volts)) (x .current) (x .t1 .count) (c .before .before .before .before .loop .i) (c .before .before .before .loop-test .taken) (sym (c .before .fixed-with .ensures) ∙ c .if1 .taken))
+    sym (found-at (x .t1 .words) (mv50 (x .volts)) (x .current) (x .t1 .count) (c .before .before .before .before .loop .i)
+    (c .before .before .before .loop-test .taken) (sym (c .before .fixed-with .ensures) ∙ c .if1 .taken))
 
 add-i : tie.Need-add-i Inv-loop μ-loop
 add-i c = search needs
@@ -45,8 +46,11 @@ loop-less c = search needs
 
 loop-again : tie.Need-loop-again Inv-loop μ-loop
 loop-again c =
-    let x = c .before .before .before .before .before .args in
-    (omega arith, none-more (x .t1 .words) (mv50 (x .volts)) (x .current) (c .before .before .before .before .loop .i) (c .before .before .before .before .loop .inv .1) (sym (c .before .fixed-with .ensures) ∙ c .if1 .left))
+    let x = c .before .before .before .before .before .args in (
+      omega arith,
+      none-more (x .t1 .words) (mv50 (x .volts)) (x .current) (c .before .before .before .before .loop .i)
+          (c .before .before .before .before .loop .inv .1) (sym (c .before .fixed-with .ensures) ∙ c .if1 .left),
+    )
 
 returns-2 : tie.Need-returns-2 Inv-loop μ-loop
 returns-2 c =

@@ -52,9 +52,11 @@ returns : tie.Need-returns Inv-loop μ-loop
 returns c =
     let l = c .before .before .before .before .before .before .before .before .before .args .t1 in
     let at = c .before .before .before .before .before .before .before .before .loop in
-    let e = ap (ofObject (avsDiffers (l .words) (l .count))) (sym (c .before .before .before .before .before .decode .ensures) ∙ c .before .before .before .d .given .1)
+    let e = ap (ofObject (avsDiffers (l .words) (l .count)))
+    (sym (c .before .before .before .before .before .decode .ensures) ∙ c .before .before .before .d .given .1)
     ∙ sym (c .before .avs-differs .ensures) ∙ c .if1 .taken in
-    sym (decided (avsRows (l .words) (l .count)) verdict (at .i) (l .count) _ (c .before .before .before .before .before .before .before .loop-test .taken) (at .inv .1)
+    sym (decided (avsRows (l .words) (l .count)) verdict (at .i) (l .count) _
+    (c .before .before .before .before .before .before .before .loop-test .taken) (at .inv .1)
     (λ (x : Verdict). hit verdict x 17 (at .i + 1) [] e) success)
 
 enum-told : tie.Need-enum-told Inv-loop μ-loop

@@ -14,7 +14,9 @@ use Rattle.lists.proofs.shape_check.shape.Tie as tie
 -- past the first word, the words decide and then the AVS words
 started : (c : tie.Then3) → shapeOf (c .before .before .before .before .before .args .t1) ≡ firstOf verdict (wordsPart (c .before .before .before .before .before .args .t1)) (verdictOf (avsPart (c .before .before .before .before .before .args .t1)))
 started c =
-    begun (c .before .before .before .before .before .args .t1) (counted _ (c .before .before .before .before .if1 .left) (c .before .before .before .if2 .left)) (sym (c .before .is-fixed-5-v .ensures) ∙ c .if3 .taken)
+    begun (c .before .before .before .before .before .args .t1)
+    (counted _ (c .before .before .before .before .if1 .left) (c .before .before .before .if2 .left))
+    (sym (c .before .is-fixed-5-v .ensures) ∙ c .if3 .taken)
 
 returns : tie.Need-returns
 returns c = sym (miscounted _ (too-few _ (c .if1 .taken)))
@@ -45,11 +47,13 @@ returns-4 c =
     let l = c .before .before .before .before .before .before .before .before .before .args .t1 in
     let e = c .before .before .before .judge-words .ensures in
     c .judge-avs .ensures
-    ∙ sym (started (c .before .before .before .before) ∙ all-missed verdict _ _ (none-applied _ (words-numbered l) (sym (ap (λ (v : Verdict). v .number) e) ∙ c .before .if4 .left)))
+    ∙ sym (started (c .before .before .before .before) ∙ all-missed verdict _ _
+    (none-applied _ (words-numbered l) (sym (ap (λ (v : Verdict). v .number) e) ∙ c .before .if4 .left)))
 
 returns-5 : tie.Need-returns-5
 returns-5 c =
-    sym (misbegun _ (counted _ (c .before .before .before .before .if1 .left) (c .before .before .before .if2 .left)) (sym (c .before .is-fixed-5-v .ensures) ∙ c .if3 .left))
+    sym (misbegun _ (counted _ (c .before .before .before .before .if1 .left) (c .before .before .before .if2 .left))
+    (sym (c .before .is-fixed-5-v .ensures) ∙ c .if3 .left))
 
 pub shape-spec : {M : Type 1} → statement M
 shape-spec =

@@ -29,7 +29,8 @@ fitting c = sym (ap number (c .before .before .before .encode-places .ensures)) 
 shaped : (c : tie.After-shape) → c .shape .result ≡ shapeOf (wordsOf (c .before .before .before .before .before .before .before .before .args .list))
 shaped c =
     c .shape .ensures
-    ∙ ap (λ (w : Listing). shapeOf (w .list)) (c .before .before .before .before .before .encode-places .ensures ∙ made-is _ (fitting (c .before .before)))
+    ∙ ap (λ (w : Listing). shapeOf (w .list)) (c .before .before .before .before .before .encode-places .ensures ∙ made-is _ (fitting
+    (c .before .before)))
 
 refuse-requires : tie.Need-refuse-requires
 refuse-requires c κs = search needs
@@ -49,7 +50,8 @@ encode-places-requires c κs = search needs
 returns-3 : tie.Need-returns-3
 returns-3 c =
     let e = c .before .before .before .encode-places .ensures in
-    e ∙ wide _ (counted _ (c .before .before .before .before .before .if1 .left) (c .before .before .before .before .if2 .left)) (λ z. c .if3 .taken (ap number e ∙ z))
+    e ∙ wide _ (counted _ (c .before .before .before .before .before .if1 .left) (c .before .before .before .before .if2 .left))
+    (λ z. c .if3 .taken (ap number e ∙ z))
 
 shape-requires : tie.Need-shape-requires
 shape-requires c κs = search needs
@@ -61,8 +63,10 @@ returns-4 : tie.Need-returns-4
 returns-4 c =
     let p = c .before .before .before .before .before in
     c .refuse3 .ensures
-    ∙ ap₂ writeRefused (ap (λ (v : Verdict). v .number) (shaped (c .before .before .before))) (ap (λ (v : Verdict). v .place) (shaped (c .before .before .before)))
-    ∙ sym (misshapen _ (well-counted p) (fitting p) (λ z. c .before .if4 .taken (ap (λ (v : Verdict). v .number) (shaped (c .before .before .before)) ∙ z)))
+    ∙ ap₂ writeRefused (ap (λ (v : Verdict). v .number) (shaped (c .before .before .before)))
+    (ap (λ (v : Verdict). v .place) (shaped (c .before .before .before)))
+    ∙ sym (misshapen _ (well-counted p) (fitting p) (λ z. c .before .if4 .taken (ap (λ (v : Verdict). v .number) (shaped
+    (c .before .before .before)) ∙ z)))
 
 returns-5 : tie.Need-returns-5
 returns-5 c =

@@ -24,7 +24,8 @@ from-1 : (c : tie.Else2) → 1 ≤ positionOf (c .before .before .before .before
 from-1 c = subst (λ (n : ℕ). 1 ≤ n) (c .before .position .ensures) (c .if2 .left)
 
 to-count : (c : tie.Else3) → positionOf (c .before .before .before .before .before .before .args .word) ≤ c .before .before .before .before .before .before .args .t1 .count
-to-count c = subst (λ (n : ℕ). n ≤ c .before .before .before .before .before .before .args .t1 .count) (c .before .before .position .ensures) (c .if3 .left)
+to-count c =
+    subst (λ (n : ℕ). n ≤ c .before .before .before .before .before .before .args .t1 .count) (c .before .before .position .ensures) (c .if3 .left)
 
 shape-requires : tie.Need-shape-requires
 shape-requires c κs = search needs

@@ -92,7 +92,8 @@ returns-6 c =
     let not-battery = c .before .before .before .before .match2 .keys2 in
     let not-variable = c .before .before .before .match3 .keys2 in
     let not-pps = c .before .before .match4 .keys2 in
-    absurd (no-sixth-kind (c .before .before .before .before .before .before .before .before .args .o) not-fixed not-battery not-variable not-pps (c .before .match5 .keys2))
+    absurd (no-sixth-kind (c .before .before .before .before .before .before .before .before .args .o) not-fixed not-battery not-variable not-pps
+    (c .before .match5 .keys2))
 
 judge-avs-requires : tie.Need-judge-avs-requires
 judge-avs-requires c κs = search needs

@@ -65,7 +65,8 @@ placeless-requires-4 c κs = search needs
 returns-4 : tie.Need-returns-4
 returns-4 c =
     let x = c .before .before .before .before .before .before .before .before .before .before .before .before .before .before .before .args in
-    let e = ap (λ (v : Mv25). v .0) (c .before .before .before .before .before .before .before .before .before .before .before .before .before .before .avs-volts .ensures) in
+    let e = ap (λ (v : Mv25). v .0)
+    (c .before .before .before .before .before .before .before .before .before .before .before .before .before .before .avs-volts .ensures) in
     let whole = c .before .before .before .before .before .before .before .before .before .before .before .before .if1 .left in
     let from = c .before .before .before .before .before .before .before .before .before .before .if2 .left in
     let to = c .before .before .before .before .before .before .if3 .left in
@@ -80,7 +81,8 @@ placeless-requires-5 c κs = search needs
 returns-5 : tie.Need-returns-5
 returns-5 c =
     let x = c .before .before .before .before .before .before .before .before .before .before .before .before .before .before .before .args in
-    let e = ap (λ (v : Mv25). v .0) (c .before .before .before .before .before .before .before .before .before .before .before .before .before .before .avs-volts .ensures) in
+    let e = ap (λ (v : Mv25). v .0)
+    (c .before .before .before .before .before .before .before .before .before .before .before .before .before .before .avs-volts .ensures) in
     let whole = c .before .before .before .before .before .before .before .before .before .before .before .before .if1 .left in
     let from = c .before .before .before .before .before .before .before .before .before .before .if2 .left in
     let to = c .before .before .before .before .before .before .if3 .left in

@@ -46,7 +46,8 @@ returns-3 c =
     let x = c .before .before .before .before .before .before .before .args in
     let m = subst (λ (n : ℕ). x .advertised < n) (c .before .before .maximum .ensures) (c .before .if3 .taken) in
     c .placeless3 .ensures
-    ∙ sym (maximum-over _ _ (operating-fits (c .before .before .before .before .before)) (sym (c .before .before .before .before .mismatch .ensures) ∙ c .before .before .before .if2 .left) m)
+    ∙ sym (maximum-over _ _ (operating-fits (c .before .before .before .before .before))
+    (sym (c .before .before .before .before .mismatch .ensures) ∙ c .before .before .before .if2 .left) m)
 
 placeless-requires-4 : tie.Need-placeless-requires-4
 placeless-requires-4 c κs = search needs

@@ -45,7 +45,8 @@ returns-2 : tie.Need-returns-2
 returns-2 c =
     let x = c .before .before .before .before .before .before .before .before .args in
     let e = ap (λ (v : Mv20). v .0) (c .before .before .before .before .before .before .before .pps-volts .ensures) in
-    c .placeless2 .ensures ∙ sym (pps-beyond 0 (x .max) (x .min) (x .limit) (x .word) _ e (c .before .before .before .before .if1 .left) (c .before .if2 .taken))
+    c .placeless2 .ensures ∙ sym (pps-beyond 0 (x .max) (x .min) (x .limit) (x .word) _ e (c .before .before .before .before .if1 .left)
+    (c .before .if2 .taken))
 
 current-requires : tie.Need-current-requires
 current-requires c κs = search needs

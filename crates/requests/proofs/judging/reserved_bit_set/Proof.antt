@@ -39,23 +39,28 @@ set-beside-voltage-requires-2 c κs = search needs
 
 returns : tie.Need-returns
 returns c =
-    c .set-beside-figures .ensures ∙ ap (λ (o : Object). reservedInRequest o (c .before .before .before .args .word)) (sym (c .before .enum-told .given .1))
+    c .set-beside-figures .ensures ∙ ap (λ (o : Object). reservedInRequest o (c .before .before .before .args .word))
+    (sym (c .before .enum-told .given .1))
 
 returns-2 : tie.Need-returns-2
 returns-2 c =
-    c .set-beside-figures2 .ensures ∙ ap (λ (o : Object). reservedInRequest o (c .before .before .before .args .word)) (sym (c .before .enum-told2 .given .1))
+    c .set-beside-figures2 .ensures ∙ ap (λ (o : Object). reservedInRequest o (c .before .before .before .args .word))
+    (sym (c .before .enum-told2 .given .1))
 
 returns-3 : tie.Need-returns-3
 returns-3 c =
-    c .set-beside-figures3 .ensures ∙ ap (λ (o : Object). reservedInRequest o (c .before .before .before .args .word)) (sym (c .before .enum-told3 .given .1))
+    c .set-beside-figures3 .ensures ∙ ap (λ (o : Object). reservedInRequest o (c .before .before .before .args .word))
+    (sym (c .before .enum-told3 .given .1))
 
 returns-4 : tie.Need-returns-4
 returns-4 c =
-    c .set-beside-voltage .ensures ∙ ap (λ (o : Object). reservedInRequest o (c .before .before .before .args .word)) (sym (c .before .enum-told4 .given .1))
+    c .set-beside-voltage .ensures ∙ ap (λ (o : Object). reservedInRequest o (c .before .before .before .args .word))
+    (sym (c .before .enum-told4 .given .1))
 
 returns-5 : tie.Need-returns-5
 returns-5 c =
-    c .set-beside-voltage2 .ensures ∙ ap (λ (o : Object). reservedInRequest o (c .before .before .before .args .word)) (sym (c .before .enum-told5 .given .1))
+    c .set-beside-voltage2 .ensures ∙ ap (λ (o : Object). reservedInRequest o (c .before .before .before .args .word))
+    (sym (c .before .enum-told5 .given .1))
 
 pub reserved-bit-set-spec : {M : Type 1} → statement M
 reserved-bit-set-spec =

@@ -26,7 +26,9 @@ given v l = record { verdict = v; list = l }
 
 -- past the profile, none of its refusals applies
 clear : (c : tie.Else1) → NoneApply (profileRefusals (c .before .before .before .args .p))
-clear c = none-applied _ (profile-numbered (c .before .before .before .args .p)) (sym (ap number (c .before .before .judge-profile .ensures)) ∙ c .if1 .left)
+clear c =
+    none-applied _ (profile-numbered (c .before .before .before .args .p))
+    (sym (ap number (c .before .before .judge-profile .ensures)) ∙ c .if1 .left)
 
 counted : (c : tie.After-built-count) → c .built-count .result ≡ builtCount (c .before .before .before .before .before .before .before .args .p)
 counted c = c .built-count .ensures ∙ count-by-plan (c .before .before .before .before .before .before .before .args .p) _ (c .before .plan .ensures)
@@ -51,7 +53,9 @@ refuse-requires-2 : tie.Need-refuse-requires-2
 refuse-requires-2 c κs = search needs
 
 returns-2 : tie.Need-returns-2
-returns-2 c = c .refuse2 .ensures ∙ sym (build-6 _ (clear (c .before .before .before)) (sym (c .before .before .wants-too-much .ensures) ∙ c .before .if2 .taken))
+returns-2 c =
+    c .refuse2 .ensures ∙ sym (build-6 _ (clear (c .before .before .before)) (sym (c .before .before .wants-too-much .ensures)
+    ∙ c .before .if2 .taken))
 
 plan-requires : tie.Need-plan-requires
 plan-requires c κs = search needs
@@ -69,7 +73,9 @@ returns-3 : tie.Need-returns-3
 returns-3 c =
     let p = c .before .before .before .before .before .before .before .before .args .p in
     let x = clear (c .before .before .before .before .before) in
-    ap₂ given (c .before .before .before .before .before .before .before .judge-profile .ensures ∙ passes (profileRefusals p) (profile-numbered p) (sym (ap number (c .before .before .before .before .before .before .before .judge-profile .ensures)) ∙ c .before .before .before .before .before .if1 .left))
+    ap₂ given (c .before .before .before .before .before .before .before .judge-profile .ensures ∙ passes (profileRefusals p) (profile-numbered p)
+    (sym (ap number (c .before .before .before .before .before .before .before .judge-profile .ensures))
+    ∙ c .before .before .before .before .before .if1 .left))
     (c .write-plan .ensures ∙ ap (firstWords p) (counted (c .before)))
     ∙ sym (build-done p x (sym (c .before .before .before .before .wants-too-much .ensures) ∙ c .before .before .before .if2 .left))
 

@@ -28,7 +28,9 @@ flags-at-requires : tie.Need-flags-at-requires
 flags-at-requires c κs = search needs
 
 mul-t16 : tie.Need-mul-t16
-mul-t16 c = let v = subst SlotWithin (c .before .before .before .slot .given .1) (c .before .before .before .before .before .pre .1) in record { fits = omega arith }
+mul-t16 c =
+    let v = subst SlotWithin (c .before .before .before .slot .given .1)
+    (c .before .before .before .before .before .pre .1) in record { fits = omega arith }
 
 enum-known-slot-2 : tie.Need-enum-known-slot-2
 enum-known-slot-2 c = search needs
@@ -53,7 +55,8 @@ returns-2 : tie.Need-returns-2
 unfolding objectFor
 returns-2 c =
     let x = c .before .before .before .before .before .args in
-    ap₂ (λ (f a : ℕ). object.Fixed f 0 (record { 0 = c .before .before .before .slot .given .0 .0 * 20 }) (record { 0 = a })) (c .flags-at .ensures) (c .before .built-current .ensures)
+    ap₂ (λ (f a : ℕ). object.Fixed f 0 (record { 0 = c .before .before .before .slot .given .0 .0 * 20 }) (record { 0 = a }))
+    (c .flags-at .ensures) (c .before .built-current .ensures)
     ∙ ap (objectFor (x .p) (x .first)) (sym (c .before .before .before .slot .given .1))
 
 returns-3 : tie.Need-returns-3
@@ -67,7 +70,8 @@ returns-4 : tie.Need-returns-4
 unfolding objectFor
 returns-4 c =
     let x = c .before .before .before .before .args in
-    ap (λ (a : ℕ). object.Pps 1 (record { 0 = c .before .before .slot3 .given .0 .1 .0 }) (record { 0 = 50 }) (record { 0 = a })) (c .prog-current .ensures)
+    ap (λ (a : ℕ). object.Pps 1 (record { 0 = c .before .before .slot3 .given .0 .1 .0 }) (record { 0 = 50 }) (record { 0 = a }))
+    (c .prog-current .ensures)
     ∙ ap (objectFor (x .p) (x .first)) (sym (c .before .before .slot3 .given .1))
 
 pub object-for-spec : {M : Type 1} → statement M

@@ -10,10 +10,13 @@ use Rattle.rules.proofs.building.wants_too_much.Statement.{statement}
 use Rattle.rules.proofs.building.wants_too_much.Tie as tie
 
 returns : tie.Need-returns
-returns c = sym (ap (λ (b : Bool). b && ltb (c .before .before .before .args .p .present .0) (c .before .before .before .args .p .max .0)) (eq-eqb _ _ (c .before .if1 .taken)))
+returns c =
+    sym (ap (λ (b : Bool). b && ltb (c .before .before .before .args .p .present .0) (c .before .before .before .args .p .max .0))
+    (eq-eqb _ _ (c .before .if1 .taken)))
 
 returns-2 : tie.Need-returns-2
-returns-2 c = sym (ap (λ (b : Bool). b && ltb (c .before .before .args .p .present .0) (c .before .before .args .p .max .0)) (ne-eqb _ _ (c .if1 .left)))
+returns-2 c =
+    sym (ap (λ (b : Bool). b && ltb (c .before .before .args .p .present .0) (c .before .before .args .p .max .0)) (ne-eqb _ _ (c .if1 .left)))
 
 pub wants-too-much-spec : {M : Type 1} → statement M
 wants-too-much-spec = tie.close (tie.spec returns returns-2)

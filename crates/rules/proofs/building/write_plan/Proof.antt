@@ -44,8 +44,11 @@ element-copy-out-planned c = search needs
 object-for-requires : tie.Need-object-for-requires Inv-loop μ-loop
 object-for-requires c κs =
     let x = c .before .before .before in
-    let m = x .args .p .max .0 in
-    (x .pre .0, subst SlotWithin (sym (slot-at m (x .args .t2) (x .pre .2) (c .before .before .loop .i))) (all-within m (x .pre .1) (c .before .before .loop .i)))
+    let m = x .args .p .max .0 in (
+      x .pre .0,
+      subst SlotWithin (sym (slot-at m (x .args .t2) (x .pre .2) (c .before .before .loop .i)))
+          (all-within m (x .pre .1) (c .before .before .loop .i)),
+    )
 
 word-of-requires : tie.Need-word-of-requires Inv-loop μ-loop
 word-of-requires c κs = search needs
@@ -68,7 +71,8 @@ loop-again c =
     let at = c .before .before .before .before .loop in
     let m = x .args .p .max .0 in
     let w = c .word-of .ensures
-    ∙ ap (λ (o : Object). wordIn (encodeOf o)) (c .before .object-for .ensures ∙ ap (objectFor (x .args .p) (eqb (at .i) 0)) (slot-at m (x .args .t2) (x .pre .2) (at .i))) in
+    ∙ ap (λ (o : Object). wordIn (encodeOf o)) (c .before .object-for .ensures ∙ ap (objectFor (x .args .p) (eqb (at .i) 0)) (slot-at m
+    (x .args .t2) (x .pre .2) (at .i))) in
     (omega arith, ap₂ (λ (ws : List ℕ) (v : ℕ). set ws (at .i) v) (at .inv .1) w ∙ one-filled (wordFor (x .args .p)) 0 (at .i) (omega arith))
 
 returns : tie.Need-returns Inv-loop μ-loop

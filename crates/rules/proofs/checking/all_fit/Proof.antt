@@ -30,11 +30,15 @@ abbrev μ-loop : tie.MeasureT-loop
 
 -- what the test of a word says
 told : (c : tie.After-fits-slot Inv-loop μ-loop)
-    → ofObject (fits (getD (slots (c .before .before .before .before .before .before .before .before .before .args .max)) (c .before .before .before .before .before .before .before .before .loop .i) Nothing)) (decodeOf (getD (c .before .before .before .before .before .before .before .before .before .args .t3 .words) (c .before .before .before .before .before .before .before .before .loop .i) 0)) ≡ c .fits-slot .result
+    → ofObject (fits (getD (slots (c .before .before .before .before .before .before .before .before .before .args .max))
+    (c .before .before .before .before .before .before .before .before .loop .i) Nothing))
+    (decodeOf (getD (c .before .before .before .before .before .before .before .before .before .args .t3 .words)
+    (c .before .before .before .before .before .before .before .before .loop .i) 0)) ≡ c .fits-slot .result
 told c =
     let x = c .before .before .before .before .before .before .before .before .before in
     let at = c .before .before .before .before .before .before .before .before .loop in
-    ap (ofObject (fits (getD (slots (x .args .max)) (at .i) Nothing))) (sym (c .before .before .before .before .decode .ensures) ∙ c .before .before .d .given .1)
+    ap (ofObject (fits (getD (slots (x .args .max)) (at .i) Nothing)))
+    (sym (c .before .before .before .before .decode .ensures) ∙ c .before .before .d .given .1)
     ∙ ap (λ (s : Slot). fits s (c .before .before .d .given .0 .0)) (sym (slot-at (x .args .max) (x .args .t2) (x .pre .1) (at .i)))
     ∙ sym (c .fits-slot .ensures)
 
@@ -75,7 +79,8 @@ returns c =
 fits-slot-requires : tie.Need-fits-slot-requires Inv-loop μ-loop
 fits-slot-requires c κs =
     let x = c .before .before .before .before .before .before .before .before in
-    subst SlotWithin (sym (slot-at (x .args .max) (x .args .t2) (x .pre .1) (c .before .before .before .before .before .before .before .loop .i))) (all-within (x .args .max) (x .pre .0) (c .before .before .before .before .before .before .before .loop .i))
+    subst SlotWithin (sym (slot-at (x .args .max) (x .args .t2) (x .pre .1) (c .before .before .before .before .before .before .before .loop .i)))
+    (all-within (x .args .max) (x .pre .0) (c .before .before .before .before .before .before .before .loop .i))
 
 add-i : tie.Need-add-i Inv-loop μ-loop
 add-i c = search needs
@@ -93,7 +98,8 @@ returns-2 : tie.Need-returns-2 Inv-loop μ-loop
 returns-2 c =
     let x = c .before .before .before .before .before .before .before .before .before .before .args in
     let at = c .before .before .before .before .before .before .before .before .before .loop in
-    sym (fit-fails (slots (x .max)) (x .t3 .words) (x .t3 .count) (at .i) (c .before .before .before .before .before .before .before .before .loop-test .taken) (told (c .before) ∙ c .if1 .left))
+    sym (fit-fails (slots (x .max)) (x .t3 .words) (x .t3 .count) (at .i)
+    (c .before .before .before .before .before .before .before .before .loop-test .taken) (told (c .before) ∙ c .if1 .left))
 
 returns-3 : tie.Need-returns-3 Inv-loop μ-loop
 returns-3 c =

@@ -31,7 +31,9 @@ returns c = ap (λ (s : Slot). currentAllowed (c .before .before .args .p) s (c 
 
 returns-2 : tie.Need-returns-2
 unfolding currentAllowed
-returns-2 c = c .fixed-current-allowed .ensures ∙ ap (λ (s : Slot). currentAllowed (c .before .before .before .before .args .p) s (c .before .before .before .before .args .o)) (sym (c .before .before .slot .given .1))
+returns-2 c =
+    c .fixed-current-allowed .ensures ∙ ap (λ (s : Slot). currentAllowed (c .before .before .before .before .args .p) s
+    (c .before .before .before .before .args .o)) (sym (c .before .before .slot .given .1))
 
 returns-3 : tie.Need-returns-3
 unfolding currentAllowed
@@ -39,7 +41,9 @@ returns-3 c = ap (λ (s : Slot). currentAllowed (c .before .before .args .p) s (
 
 returns-4 : tie.Need-returns-4
 unfolding currentAllowed
-returns-4 c = c .prog-current-allowed .ensures ∙ ap (λ (s : Slot). currentAllowed (c .before .before .before .before .args .p) s (c .before .before .before .before .args .o)) (sym (c .before .before .slot2 .given .1))
+returns-4 c =
+    c .prog-current-allowed .ensures ∙ ap (λ (s : Slot). currentAllowed (c .before .before .before .before .args .p) s
+    (c .before .before .before .before .args .o)) (sym (c .before .before .slot2 .given .1))
 
 pub current-allowed-spec : {M : Type 1} → statement M
 current-allowed-spec =

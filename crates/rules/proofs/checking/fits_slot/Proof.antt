@@ -36,7 +36,8 @@ returns c = ap (λ (s : Slot). fits s (c .before .before .args .o)) (sym (c .enu
 
 returns-2 : tie.Need-returns-2
 unfolding fits
-returns-2 c = c .fits-fixed .ensures ∙ ap (λ (s : Slot). fits s (c .before .before .before .before .args .o)) (sym (c .before .before .slot .given .1))
+returns-2 c =
+    c .fits-fixed .ensures ∙ ap (λ (s : Slot). fits s (c .before .before .before .before .args .o)) (sym (c .before .before .slot .given .1))
 
 returns-3 : tie.Need-returns-3
 unfolding fits
@@ -44,7 +45,8 @@ returns-3 c = c .fits-avs .ensures ∙ ap (λ (s : Slot). fits s (c .before .bef
 
 returns-4 : tie.Need-returns-4
 unfolding fits
-returns-4 c = c .fits-prog .ensures ∙ ap (λ (s : Slot). fits s (c .before .before .before .before .args .o)) (sym (c .before .before .slot3 .given .1))
+returns-4 c =
+    c .fits-prog .ensures ∙ ap (λ (s : Slot). fits s (c .before .before .before .before .args .o)) (sym (c .before .before .slot3 .given .1))
 
 pub fits-slot-spec : {M : Type 1} → statement M
 fits-slot-spec =

@@ -11,13 +11,17 @@ enum-known-o : tie.Need-enum-known-o
 enum-known-o c = search needs
 
 returns : tie.Need-returns
-returns c = sym (fixed-current-only (c .before .args .p) (c .before .args .volts) (c .before .args .o) (c .match .keys2))
+returns c =
+    let x = c .before .args in
+    sym (fixed-current-only (x .p) (x .volts) (x .o) (c .match .keys2))
 
 fixed-allowed-requires : tie.Need-fixed-allowed-requires
 fixed-allowed-requires c κs = search needs
 
 returns-2 : tie.Need-returns-2
-returns-2 c = c .fixed-allowed .ensures ∙ ap (fixedCurrentAllowed (c .before .before .before .before .args .p) (c .before .before .before .before .args .volts)) (sym (c .before .before .o .given .1))
+returns-2 c =
+    c .fixed-allowed .ensures ∙ ap (fixedCurrentAllowed (c .before .before .before .before .args .p)
+    (c .before .before .before .before .args .volts)) (sym (c .before .before .o .given .1))
 
 pub fixed-current-allowed-spec : {M : Type 1} → statement M
 fixed-current-allowed-spec =

@@ -67,10 +67,12 @@ returns c =
     let x = c .before .before .before .before .before .before .before .before .before .before .args in
     let at = c .before .before .before .before .before .before .before .before .before .loop in
     let s = slot-at (x .p .max .0) (x .t2) (c .before .before .before .before .before .before .before .before .before .before .pre .1) (at .i) in
-    let e = ap (ofObject (λ (o : Object). not (currentAllowed (x .p) (getD (slots (x .p .max .0)) (at .i) Nothing) o))) (sym (c .before .before .before .before .before .decode .ensures) ∙ c .before .before .before .d .given .1)
+    let e = ap (ofObject (λ (o : Object). not (currentAllowed (x .p) (getD (slots (x .p .max .0)) (at .i) Nothing) o)))
+    (sym (c .before .before .before .before .before .decode .ensures) ∙ c .before .before .before .d .given .1)
     ∙ ap (λ (t : Slot). not (currentAllowed (x .p) t (c .before .before .before .d .given .0 .0))) (sym s)
     ∙ ap not (sym (c .before .current-allowed .ensures)) ∙ c .if1 .taken in
-    sym (decided (currentRows (x .p) (x .t3 .words)) verdict (at .i) (x .t3 .count) _ (c .before .before .before .before .before .before .before .before .loop-test .taken) (at .inv .1)
+    sym (decided (currentRows (x .p) (x .t3 .words)) verdict (at .i) (x .t3 .count) _
+    (c .before .before .before .before .before .before .before .before .loop-test .taken) (at .inv .1)
     (λ (v : Verdict). hit verdict v 19 (at .i + 1) [] e) success)
 
 enum-told : tie.Need-enum-told Inv-loop μ-loop

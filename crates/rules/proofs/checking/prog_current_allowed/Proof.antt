@@ -11,13 +11,17 @@ enum-known-o : tie.Need-enum-known-o
 enum-known-o c = search needs
 
 returns : tie.Need-returns
-returns c = sym (prog-current-only (c .before .args .p) (c .before .args .volts) (c .before .args .o) (c .match .keys2))
+returns c =
+    let x = c .before .args in
+    sym (prog-current-only (x .p) (x .volts) (x .o) (c .match .keys2))
 
 prog-allowed-requires : tie.Need-prog-allowed-requires
 prog-allowed-requires c κs = search needs
 
 returns-2 : tie.Need-returns-2
-returns-2 c = c .prog-allowed .ensures ∙ ap (progCurrentAllowed (c .before .before .before .before .args .p) (c .before .before .before .before .args .volts)) (sym (c .before .before .o .given .1))
+returns-2 c =
+    c .prog-allowed .ensures ∙ ap (progCurrentAllowed (c .before .before .before .before .args .p)
+    (c .before .before .before .before .args .volts)) (sym (c .before .before .o .given .1))
 
 pub prog-current-allowed-spec : {M : Type 1} → statement M
 prog-current-allowed-spec =

@@ -16,13 +16,15 @@ returns : tie.Need-returns
 returns c =
     let x = c .before .before .args in
     let b = base-is (x .p .max .0) (x .plan) (c .before .before .pre .1) in
-    sym (ap (λ (t : Bool). t || (eqb (x .p .present .0) (x .p .max .0) && eqb (x .count) (length (slots (x .p .max .0))))) (eq-eqb (x .count) (length (baseSlots (x .p .max .0))) (c .if1 .taken ∙ b)))
+    sym (ap (λ (t : Bool). t || (eqb (x .p .present .0) (x .p .max .0) && eqb (x .count) (length (slots (x .p .max .0)))))
+    (eq-eqb (x .count) (length (baseSlots (x .p .max .0))) (c .if1 .taken ∙ b)))
 
 returns-2 : tie.Need-returns-2
 returns-2 c =
     let x = c .before .before .before .before .args in
     let b = base-is (x .p .max .0) (x .plan) (c .before .before .before .before .pre .1) in
-    sym (ap (λ (t : Bool). t || (eqb (x .p .present .0) (x .p .max .0) && eqb (x .count) (length (slots (x .p .max .0))))) (ne-eqb (x .count) (length (baseSlots (x .p .max .0))) (λ e. c .before .before .if1 .left (e ∙ sym b)))
+    sym (ap (λ (t : Bool). t || (eqb (x .p .present .0) (x .p .max .0) && eqb (x .count) (length (slots (x .p .max .0)))))
+    (ne-eqb (x .count) (length (baseSlots (x .p .max .0))) (λ e. c .before .before .if1 .left (e ∙ sym b)))
     ∙ ap (λ (t : Bool). t && eqb (x .count) (length (slots (x .p .max .0)))) (ne-eqb (x .p .present .0) (x .p .max .0) (c .if2 .taken)))
 
 returns-3 : tie.Need-returns-3
@@ -30,7 +32,8 @@ returns-3 c =
     let x = c .before .before .before .before .before .args in
     let b = base-is (x .p .max .0) (x .plan) (c .before .before .before .before .before .pre .1) in
     ap (eqb (x .count)) (count-is (x .p .max .0) (x .plan) (c .before .before .before .before .before .pre .1))
-    ∙ sym (ap (λ (t : Bool). t || (eqb (x .p .present .0) (x .p .max .0) && eqb (x .count) (length (slots (x .p .max .0))))) (ne-eqb (x .count) (length (baseSlots (x .p .max .0))) (λ e. c .before .before .before .if1 .left (e ∙ sym b)))
+    ∙ sym (ap (λ (t : Bool). t || (eqb (x .p .present .0) (x .p .max .0) && eqb (x .count) (length (slots (x .p .max .0)))))
+    (ne-eqb (x .count) (length (baseSlots (x .p .max .0))) (λ e. c .before .before .before .if1 .left (e ∙ sym b)))
     ∙ ap (λ (t : Bool). t && eqb (x .count) (length (slots (x .p .max .0)))) (eq-eqb (x .p .present .0) (x .p .max .0) (c .before .if2 .left)))
 
 pub right-count-spec : {M : Type 1} → statement M

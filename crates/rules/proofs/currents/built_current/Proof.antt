@@ -23,7 +23,8 @@ returns : tie.Need-returns
 unfolding builtCurrent
 returns c =
     let x = c .before .before .before .before .before .args in
-    c .cut .ensures ∙ ap₂ min (c .before .down-at .ensures ∙ sym (rounds-down (downAt (x .p) (x .volts)) (upAt (x .p) (x .volts)) (c .before .before .if1 .taken))) (c .before .before .before .before .limit-at .ensures)
+    c .cut .ensures ∙ ap₂ min (c .before .down-at .ensures ∙ sym (rounds-down (downAt (x .p) (x .volts)) (upAt (x .p) (x .volts))
+    (c .before .before .if1 .taken))) (c .before .before .before .before .limit-at .ensures)
 
 up-at-requires : tie.Need-up-at-requires
 up-at-requires c κs = search needs
@@ -35,7 +36,8 @@ returns-2 : tie.Need-returns-2
 unfolding builtCurrent
 returns-2 c =
     let x = c .before .before .before .before .before .args in
-    c .cut2 .ensures ∙ ap₂ min (c .before .up-at .ensures ∙ sym (rounds-up (downAt (x .p) (x .volts)) (upAt (x .p) (x .volts)) (c .before .before .if1 .left))) (c .before .before .before .before .limit-at .ensures)
+    c .cut2 .ensures ∙ ap₂ min (c .before .up-at .ensures ∙ sym (rounds-up (downAt (x .p) (x .volts)) (upAt (x .p) (x .volts))
+    (c .before .before .if1 .left))) (c .before .before .before .before .limit-at .ensures)
 
 pub built-current-spec : {M : Type 1} → statement M
 built-current-spec =

@@ -30,18 +30,23 @@ cut-requires c κs = search needs
 
 returns : tie.Need-returns
 returns c =
+    let x = c .before .before .before .before .before .before .args in
     let u = c .before .before .before in
-    sym (at-20-V (c .before .before .before .before .before .before .args .p) (c .before .before .before .before .before .before .args .volts) (c .before .before .before .before .before .before .args .current) (c .before .before .if1 .taken) ∙ ap (λ (b : Bool). b || eqb (c .before .before .before .before .before .before .args .current) (min (upAt (c .before .before .before .before .before .before .args .p) (c .before .before .before .before .before .before .args .volts)) (c .before .before .before .before .before .before .args .p .cable * 100))) (eq-eqb _ _ (c .if2 .taken ∙ c .before .cut .ensures ∙ ap (λ (n : ℕ). min n (c .before .before .before .before .before .before .args .p .cable * 100)) (u .before .down-at .ensures))))
+    sym (at-20-V (x .p) (x .volts) (x .current) (c .before .before .if1 .taken) ∙ ap
+    (λ (b : Bool). b || eqb (x .current) (min (upAt (x .p) (x .volts)) (x .p .cable * 100)))
+    (eq-eqb _ _ (c .if2 .taken ∙ c .before .cut .ensures ∙ ap (λ (n : ℕ). min n (x .p .cable * 100)) (u .before .down-at .ensures))))
 
 cut-requires-2 : tie.Need-cut-requires-2
 cut-requires-2 c κs = search needs
 
 returns-2 : tie.Need-returns-2
 returns-2 c =
+    let x = c .before .before .before .before .before .before .before .args in
     let u = c .before .before .before .before in
-    let d = c .before .before .cut .ensures ∙ ap (λ (n : ℕ). min n (c .before .before .before .before .before .before .before .args .p .cable * 100)) (u .before .down-at .ensures) in
-    ap (eqb (c .before .before .before .before .before .before .before .args .current)) (c .cut2 .ensures ∙ ap (λ (n : ℕ). min n (c .before .before .before .before .before .before .before .args .p .cable * 100)) (u .up-at .ensures))
-    ∙ sym (at-20-V (c .before .before .before .before .before .before .before .args .p) (c .before .before .before .before .before .before .before .args .volts) (c .before .before .before .before .before .before .before .args .current) (c .before .before .before .if1 .taken) ∙ ap (λ (b : Bool). b || eqb (c .before .before .before .before .before .before .before .args .current) (min (upAt (c .before .before .before .before .before .before .before .args .p) (c .before .before .before .before .before .before .before .args .volts)) (c .before .before .before .before .before .before .before .args .p .cable * 100))) (ne-eqb _ _ (λ e. c .before .if2 .left (e ∙ sym d))))
+    let d = c .before .before .cut .ensures ∙ ap (λ (n : ℕ). min n (x .p .cable * 100)) (u .before .down-at .ensures) in
+    ap (eqb (x .current)) (c .cut2 .ensures ∙ ap (λ (n : ℕ). min n (x .p .cable * 100)) (u .up-at .ensures))
+    ∙ sym (at-20-V (x .p) (x .volts) (x .current) (c .before .before .before .if1 .taken) ∙ ap
+    (λ (b : Bool). b || eqb (x .current) (min (upAt (x .p) (x .volts)) (x .p .cable * 100))) (ne-eqb _ _ (λ e. c .before .if2 .left (e ∙ sym d))))
 
 mul-if3 : tie.Need-mul-if3
 mul-if3 c = search needs
@@ -50,27 +55,36 @@ cast-if3 : tie.Need-cast-if3
 cast-if3 c = search needs
 
 returns-3 : tie.Need-returns-3
-returns-3 c = sym (above-3-A (c .before .before .before .before .before .before .before .args .p) (c .before .before .before .before .before .before .before .args .volts) (c .before .before .before .before .before .before .before .args .current) (c .before .before .before .if1 .left) (c .before .if3 .taken) ∙ ap (λ (b : Bool). b && leb (c .before .before .before .before .before .before .before .args .current) (min (upAt (c .before .before .before .before .before .before .before .args .p) (c .before .before .before .before .before .before .before .args .volts)) (c .before .before .before .before .before .before .before .args .p .cable * 100))) (lt-leb 300 _ (c .if4 .taken)))
+returns-3 c =
+    let x = c .before .before .before .before .before .before .before .args in
+    sym (above-3-A (x .p) (x .volts) (x .current) (c .before .before .before .if1 .left) (c .before .if3 .taken) ∙ ap
+    (λ (b : Bool). b && leb (x .current) (min (upAt (x .p) (x .volts)) (x .p .cable * 100))) (lt-leb 300 _ (c .if4 .taken)))
 
 cut-requires-3 : tie.Need-cut-requires-3
 cut-requires-3 c κs = search needs
 
 returns-4 : tie.Need-returns-4
 returns-4 c =
+    let x = c .before .before .before .before .before .before .before .before .args in
     let u = c .before .before .before .before .before in
-    ap (leb (c .before .before .before .before .before .before .before .before .args .current)) (c .cut3 .ensures ∙ ap (λ (n : ℕ). min n (c .before .before .before .before .before .before .before .before .args .p .cable * 100)) (u .up-at .ensures))
-    ∙ sym (above-3-A (c .before .before .before .before .before .before .before .before .args .p) (c .before .before .before .before .before .before .before .before .args .volts) (c .before .before .before .before .before .before .before .before .args .current) (c .before .before .before .before .if1 .left) (c .before .before .if3 .taken) ∙ ap (λ (b : Bool). b && leb (c .before .before .before .before .before .before .before .before .args .current) (min (upAt (c .before .before .before .before .before .before .before .before .args .p) (c .before .before .before .before .before .before .before .before .args .volts)) (c .before .before .before .before .before .before .before .before .args .p .cable * 100))) (le-leb 300 _ (c .before .if4 .left)))
+    ap (leb (x .current)) (c .cut3 .ensures ∙ ap (λ (n : ℕ). min n (x .p .cable * 100)) (u .up-at .ensures))
+    ∙ sym (above-3-A (x .p) (x .volts) (x .current) (c .before .before .before .before .if1 .left) (c .before .before .if3 .taken) ∙ ap
+    (λ (b : Bool). b && leb (x .current) (min (upAt (x .p) (x .volts)) (x .p .cable * 100))) (le-leb 300 _ (c .before .if4 .left)))
 
 returns-5 : tie.Need-returns-5
 returns-5 c =
+    let x = c .before .before .before .before .before .before .before .args in
     let u = c .before .before .before .before in
-    sym (up-to-3-A (c .before .before .before .before .before .before .before .args .p) (c .before .before .before .before .before .before .before .args .volts) (c .before .before .before .before .before .before .before .args .current) (c .before .before .before .if1 .left) (c .before .if3 .left) ∙ ap (λ (b : Bool). b || eqb (c .before .before .before .before .before .before .before .args .current) (upAt (c .before .before .before .before .before .before .before .args .p) (c .before .before .before .before .before .before .before .args .volts))) (eq-eqb _ _ (c .if5 .taken ∙ u .before .down-at .ensures)))
+    sym (up-to-3-A (x .p) (x .volts) (x .current) (c .before .before .before .if1 .left) (c .before .if3 .left) ∙ ap
+    (λ (b : Bool). b || eqb (x .current) (upAt (x .p) (x .volts))) (eq-eqb _ _ (c .if5 .taken ∙ u .before .down-at .ensures)))
 
 returns-6 : tie.Need-returns-6
 returns-6 c =
+    let x = c .before .before .before .before .before .before .before .args in
     let u = c .before .before .before .before in
-    ap (eqb (c .before .before .before .before .before .before .before .args .current)) (u .up-at .ensures)
-    ∙ sym (up-to-3-A (c .before .before .before .before .before .before .before .args .p) (c .before .before .before .before .before .before .before .args .volts) (c .before .before .before .before .before .before .before .args .current) (c .before .before .before .if1 .left) (c .before .if3 .left) ∙ ap (λ (b : Bool). b || eqb (c .before .before .before .before .before .before .before .args .current) (upAt (c .before .before .before .before .before .before .before .args .p) (c .before .before .before .before .before .before .before .args .volts))) (ne-eqb _ _ (λ e. c .if5 .left (e ∙ sym (u .before .down-at .ensures)))))
+    ap (eqb (x .current)) (u .up-at .ensures)
+    ∙ sym (up-to-3-A (x .p) (x .volts) (x .current) (c .before .before .before .if1 .left) (c .before .if3 .left) ∙ ap
+    (λ (b : Bool). b || eqb (x .current) (upAt (x .p) (x .volts))) (ne-eqb _ _ (λ e. c .if5 .left (e ∙ sym (u .before .down-at .ensures)))))
 
 pub fixed-allowed-spec : {M : Type 1} → statement M
 fixed-allowed-spec =

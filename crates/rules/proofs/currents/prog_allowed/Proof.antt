@@ -17,15 +17,19 @@ prog-current-requires : tie.Need-prog-current-requires
 prog-current-requires c κs = search needs
 
 returns : tie.Need-returns
-returns c = sym (built-figure (c .before .before .args .p) (c .before .before .args .volts) (c .before .before .args .current) (c .if1 .taken ∙ c .before .prog-current .ensures))
+returns c =
+    let x = c .before .before .args in
+    sym (built-figure (x .p) (x .volts) (x .current) (c .if1 .taken ∙ c .before .prog-current .ensures))
 
 may-exceed-requires : tie.Need-may-exceed-requires
 may-exceed-requires c κs = search needs
 
 returns-2 : tie.Need-returns-2
 returns-2 c =
+    let x = c .before .before .before .before .before .args in
     let b = c .before .before .before .before .prog-current .ensures in
-    sym (below-built (c .before .before .before .before .before .args .p) (c .before .before .before .before .before .args .volts) (c .before .before .before .before .before .args .current) (λ e. c .before .before .before .if1 .left (e ∙ sym b)) (sym (c .before .before .may-exceed .ensures) ∙ c .before .if2 .taken) (subst (λ (n : ℕ). c .before .before .before .before .before .args .current < n) b (c .if3 .taken)))
+    sym (below-built (x .p) (x .volts) (x .current) (λ e. c .before .before .before .if1 .left (e ∙ sym b))
+    (sym (c .before .before .may-exceed .ensures) ∙ c .before .if2 .taken) (subst (λ (n : ℕ). x .current < n) b (c .if3 .taken)))
 
 prog-down-requires : tie.Need-prog-down-requires
 prog-down-requires c κs = search needs
@@ -41,14 +45,19 @@ cut-requires c κs = search needs
 
 returns-3 : tie.Need-returns-3
 returns-3 c =
+    let x = c .before .before .before .before .before .before .before .before .args in
     let b = c .before .before .before .before .before .before .before .prog-current .ensures in
-    ap (leb (c .before .before .before .before .before .before .before .before .args .current)) (c .cut .ensures ∙ ap (λ (n : ℕ). min n (c .before .before .before .before .before .before .before .before .args .p .cable * 20)) (c .before .before .prog-down .ensures))
-    ∙ sym (by-cable (c .before .before .before .before .before .before .before .before .args .p) (c .before .before .before .before .before .before .before .before .args .volts) (c .before .before .before .before .before .before .before .before .args .current) (λ e. c .before .before .before .before .before .before .if1 .left (e ∙ sym b)) (sym (c .before .before .before .before .before .may-exceed .ensures) ∙ c .before .before .before .before .if2 .taken) (subst (λ (n : ℕ). n ≤ c .before .before .before .before .before .before .before .before .args .current) b (c .before .before .before .if3 .left)))
+    ap (leb (x .current)) (c .cut .ensures ∙ ap (λ (n : ℕ). min n (x .p .cable * 20)) (c .before .before .prog-down .ensures))
+    ∙ sym (by-cable (x .p) (x .volts) (x .current) (λ e. c .before .before .before .before .before .before .if1 .left (e ∙ sym b))
+    (sym (c .before .before .before .before .before .may-exceed .ensures) ∙ c .before .before .before .before .if2 .taken)
+    (subst (λ (n : ℕ). n ≤ x .current) b (c .before .before .before .if3 .left)))
 
 returns-4 : tie.Need-returns-4
 returns-4 c =
+    let x = c .before .before .before .before .args in
     let b = c .before .before .before .prog-current .ensures in
-    sym (not-above (c .before .before .before .before .args .p) (c .before .before .before .before .args .volts) (c .before .before .before .before .args .current) (λ e. c .before .before .if1 .left (e ∙ sym b)) (sym (c .before .may-exceed .ensures) ∙ c .if2 .left))
+    sym (not-above (x .p) (x .volts) (x .current) (λ e. c .before .before .if1 .left (e ∙ sym b))
+    (sym (c .before .may-exceed .ensures) ∙ c .if2 .left))
 
 pub prog-allowed-spec : {M : Type 1} → statement M
 prog-allowed-spec =

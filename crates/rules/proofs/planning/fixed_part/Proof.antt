@@ -38,8 +38,11 @@ loop-again : tie.Need-loop-again Inv-loop μ-loop
 loop-again c =
     let at = c .before .before .before .before .loop in
     let m = c .before .before .before .before .before .args .max in
-    let few : length (fixedSlots m (take (at .i) rails)) < 8 = omega (arith, rails-length m (take (at .i) rails), take-short (at .i) rails) in
-    (omega arith, c .push-if .ensures (fixedSlots m (take (at .i) rails)) few (at .inv .1) ∙ ap held (sym (rail-more m rails (at .i) (row 0 0) (omega arith))))
+    let few : length (fixedSlots m (take (at .i) rails)) < 8 = omega (arith, rails-length m (take (at .i) rails), take-short (at .i) rails) in (
+      omega arith,
+      c .push-if .ensures (fixedSlots m (take (at .i) rails)) few (at .inv .1) ∙ ap held
+          (sym (rail-more m rails (at .i) (row 0 0) (omega arith))),
+    )
 
 returns : tie.Need-returns Inv-loop μ-loop
 returns c =

@@ -28,7 +28,9 @@ push-if-requires-4 c κs = search needs
 
 returns : tie.Need-returns
 returns c =
-    plan-made _ _ _ _ _ _ _ _ (c .before .before .before .before .before .before .before .fixed-part .ensures) (c .before .before .before .before .before .before .push-if .ensures) (c .before .before .before .before .before .between .ensures) (c .before .before .before .before .push-if2 .ensures) (c .before .before .before .between2 .ensures)
+    plan-made _ _ _ _ _ _ _ _ (c .before .before .before .before .before .before .before .fixed-part .ensures)
+    (c .before .before .before .before .before .before .push-if .ensures) (c .before .before .before .before .before .between .ensures)
+    (c .before .before .before .before .push-if2 .ensures) (c .before .before .before .between2 .ensures)
     (c .before .before .push-if3 .ensures) (c .before .push-if4 .ensures)
 
 pub plan-spec : {M : Type 1} → statement M

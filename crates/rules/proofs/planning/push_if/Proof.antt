@@ -19,13 +19,19 @@ add-t13 : tie.Need-add-t13
 add-t13 c = search needs
 
 returns : tie.Need-returns
-returns c = λ ss h e. push-there (c .before .before .before .before .before .args .list) (c .before .before .before .before .before .args .there) (c .before .before .before .before .before .args .slot) ss h e (c .before .before .before .if1 .taken)
+returns c =
+    let x = c .before .before .before .before .before .args in
+    λ ss h e. push-there (x .list) (x .there) (x .slot) ss h e (c .before .before .before .if1 .taken)
 
 returns-2 : tie.Need-returns-2
-returns-2 c = λ ss h e. push-full (c .before .before .before .args .list) (c .before .before .before .args .there) (c .before .before .before .args .slot) ss h e (c .if2 .left)
+returns-2 c =
+    let x = c .before .before .before .args in
+    λ ss h e. push-full (x .list) (x .there) (x .slot) ss h e (c .if2 .left)
 
 returns-3 : tie.Need-returns-3
-returns-3 c = λ ss h e. push-not (c .before .before .args .list) (c .before .before .args .there) (c .before .before .args .slot) ss h e (c .if1 .left)
+returns-3 c =
+    let x = c .before .before .args in
+    λ ss h e. push-not (x .list) (x .there) (x .slot) ss h e (c .if1 .left)
 
 pub push-if-spec : {M : Type 1} → statement M
 push-if-spec =

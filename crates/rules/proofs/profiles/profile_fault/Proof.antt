@@ -37,39 +37,67 @@ choices-fine c =
     ap (λ (b : Bool). b || ltb 1 (x .pps)) (le-ltb 1 (x .rounding) (c .before .if6 .left)) ∙ le-ltb 1 (x .pps) (c .if7 .left)
 
 returns : tie.Need-returns
-returns c = number (fault-1 (c .before .args .max) (c .before .args .present) (c .before .args .cable) (c .before .args .rounding) (c .before .args .pps) (c .before .args .flags) (too-low 1 200 _ (c .if1 .taken)))
+returns c =
+    let x = c .before .args in
+    number (fault-1 (x .max) (x .present) (x .cable) (x .rounding) (x .pps) (x .flags) (too-low 1 200 _ (c .if1 .taken)))
 
 returns-2 : tie.Need-returns-2
-returns-2 c = number (fault-1 (c .before .before .args .max) (c .before .before .args .present) (c .before .before .args .cable) (c .before .before .args .rounding) (c .before .before .args .pps) (c .before .before .args .flags) (too-high 1 200 _ (c .before .if1 .left) (c .if2 .taken)))
+returns-2 c =
+    let x = c .before .before .args in
+    number (fault-1 (x .max) (x .present) (x .cable) (x .rounding) (x .pps) (x .flags) (too-high 1 200 _ (c .before .if1 .left) (c .if2 .taken)))
 
 returns-3 : tie.Need-returns-3
-returns-3 c = number (fault-2 (c .before .before .before .args .max) (c .before .before .before .args .present) (c .before .before .before .args .cable) (c .before .before .before .args .rounding) (c .before .before .before .args .pps) (c .before .before .before .args .flags) (max-fine (c .before)) (too-low 1 _ _ (c .if3 .taken)))
+returns-3 c =
+    let x = c .before .before .before .args in
+    number (fault-2 (x .max) (x .present) (x .cable) (x .rounding) (x .pps) (x .flags) (max-fine (c .before)) (too-low 1 _ _ (c .if3 .taken)))
 
 returns-4 : tie.Need-returns-4
-returns-4 c = number (fault-2 (c .before .before .before .before .args .max) (c .before .before .before .before .args .present) (c .before .before .before .before .args .cable) (c .before .before .before .before .args .rounding) (c .before .before .before .before .args .pps) (c .before .before .before .before .args .flags) (max-fine (c .before .before)) (too-high 1 _ _ (c .before .if3 .left) (c .if4 .taken)))
+returns-4 c =
+    let x = c .before .before .before .before .args in
+    number (fault-2 (x .max) (x .present) (x .cable) (x .rounding) (x .pps) (x .flags) (max-fine (c .before .before))
+    (too-high 1 _ _ (c .before .if3 .left) (c .if4 .taken)))
 
 bad-cable-requires : tie.Need-bad-cable-requires
 bad-cable-requires c κs = search needs
 
 returns-5 : tie.Need-returns-5
-returns-5 c = number (fault-3 (c .before .before .before .before .before .before .args .max) (c .before .before .before .before .before .before .args .present) (c .before .before .before .before .before .before .args .cable) (c .before .before .before .before .before .before .args .rounding) (c .before .before .before .before .before .before .args .pps) (c .before .before .before .before .before .before .args .flags) (max-fine (c .before .before .before .before)) (present-fine (c .before .before)) (sym (c .before .bad-cable .ensures) ∙ c .if5 .taken))
+returns-5 c =
+    let x = c .before .before .before .before .before .before .args in
+    number (fault-3 (x .max) (x .present) (x .cable) (x .rounding) (x .pps) (x .flags) (max-fine (c .before .before .before .before))
+    (present-fine (c .before .before)) (sym (c .before .bad-cable .ensures) ∙ c .if5 .taken))
 
 returns-6 : tie.Need-returns-6
 returns-6 c =
-    number (fault-4 (c .before .before .before .before .before .before .before .args .max) (c .before .before .before .before .before .before .before .args .present) (c .before .before .before .before .before .before .before .args .cable) (c .before .before .before .before .before .before .before .args .rounding) (c .before .before .before .before .before .before .before .args .pps) (c .before .before .before .before .before .before .before .args .flags) (max-fine (c .before .before .before .before .before)) (present-fine (c .before .before .before)) (cable-fine (c .before))
-    (ap (λ (b : Bool). b || ltb 1 (c .before .before .before .before .before .before .before .args .pps)) (lt-ltb 1 (c .before .before .before .before .before .before .before .args .rounding) (c .if6 .taken))))
+    let x = c .before .before .before .before .before .before .before .args in
+    number (fault-4 (x .max) (x .present) (x .cable) (x .rounding) (x .pps) (x .flags) (max-fine (c .before .before .before .before .before))
+    (present-fine (c .before .before .before)) (cable-fine (c .before))
+    (ap (λ (b : Bool). b || ltb 1 (x .pps)) (lt-ltb 1 (x .rounding) (c .if6 .taken))))
 
 returns-7 : tie.Need-returns-7
 returns-7 c =
     let x = c .before .before .before .before .before .before .before .before .args in
-    number (fault-4 (c .before .before .before .before .before .before .before .before .args .max) (c .before .before .before .before .before .before .before .before .args .present) (c .before .before .before .before .before .before .before .before .args .cable) (c .before .before .before .before .before .before .before .before .args .rounding) (c .before .before .before .before .before .before .before .before .args .pps) (c .before .before .before .before .before .before .before .before .args .flags) (max-fine (c .before .before .before .before .before .before)) (present-fine (c .before .before .before .before)) (cable-fine (c .before .before))
+    number (fault-4 (c .before .before .before .before .before .before .before .before .args .max)
+    (c .before .before .before .before .before .before .before .before .args .present)
+    (c .before .before .before .before .before .before .before .before .args .cable)
+    (c .before .before .before .before .before .before .before .before .args .rounding)
+    (c .before .before .before .before .before .before .before .before .args .pps)
+    (c .before .before .before .before .before .before .before .before .args .flags) (max-fine (c .before .before .before .before .before .before))
+    (present-fine (c .before .before .before .before)) (cable-fine (c .before .before))
     (ap (λ (b : Bool). b || ltb 1 (x .pps)) (le-ltb 1 (x .rounding) (c .before .if6 .left)) ∙ lt-ltb 1 (x .pps) (c .if7 .taken)))
 
 returns-8 : tie.Need-returns-8
-returns-8 c = number (fault-5 (c .before .before .before .before .before .before .before .before .before .args .max) (c .before .before .before .before .before .before .before .before .before .args .present) (c .before .before .before .before .before .before .before .before .before .args .cable) (c .before .before .before .before .before .before .before .before .before .args .rounding) (c .before .before .before .before .before .before .before .before .before .args .pps) (c .before .before .before .before .before .before .before .before .before .args .flags) (max-fine (c .before .before .before .before .before .before .before)) (present-fine (c .before .before .before .before .before)) (cable-fine (c .before .before .before)) (choices-fine (c .before)) (lt-ltb 63 _ (c .if8 .taken)))
+returns-8 c =
+    let x = c .before .before .before .before .before .before .before .before .before .args in
+    number (fault-5 (x .max) (x .present) (x .cable) (x .rounding) (x .pps) (x .flags)
+    (max-fine (c .before .before .before .before .before .before .before)) (present-fine (c .before .before .before .before .before))
+    (cable-fine (c .before .before .before)) (choices-fine (c .before)) (lt-ltb 63 _ (c .if8 .taken)))
 
 returns-9 : tie.Need-returns-9
-returns-9 c = number (no-fault (c .before .before .before .before .before .before .before .before .before .args .max) (c .before .before .before .before .before .before .before .before .before .args .present) (c .before .before .before .before .before .before .before .before .before .args .cable) (c .before .before .before .before .before .before .before .before .before .args .rounding) (c .before .before .before .before .before .before .before .before .before .args .pps) (c .before .before .before .before .before .before .before .before .before .args .flags) (max-fine (c .before .before .before .before .before .before .before)) (present-fine (c .before .before .before .before .before)) (cable-fine (c .before .before .before)) (choices-fine (c .before)) (le-ltb 63 _ (c .if8 .left)))
+returns-9 c =
+    let x = c .before .before .before .before .before .before .before .before .before .args in
+    number (no-fault (x .max) (x .present) (x .cable) (x .rounding) (x .pps) (x .flags)
+    (max-fine (c .before .before .before .before .before .before .before)) (present-fine (c .before .before .before .before .before))
+    (cable-fine (c .before .before .before)) (choices-fine (c .before)) (le-ltb 63 _ (c .if8 .left)))
 
 pub profile-fault-spec : {M : Type 1} → statement M
 profile-fault-spec =
