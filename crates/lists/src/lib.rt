@@ -45,7 +45,7 @@ pub struct Listing {
 }
 
 // A place past the count: a fixed object with all fields zero.
-const EMPTY_PLACE: Place = Place {
+pub const EMPTY_PLACE: Place = Place {
     object: Object::Fixed {
         flags: 0,
         peak: 0,

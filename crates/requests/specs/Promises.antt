@@ -6,8 +6,11 @@ use Rattle.verdicts.specs.declared.Verdict.{Verdict}
 use Rattle.objects.specs.declared.Object.{Object}
 use Rattle.lists.specs.declared.Words.{Words}
 use Rattle.requests.specs.declared.Asked.{Asked}
-use Rattle.requests.specs.Taking.{takenApart}
+use Rattle.requests.specs.Taking.{positionOf, takenApart}
 use Rattle.requests.specs.Answering.{answerOf}
+
+abbrev pub NamesPlace : ℕ → ℕ → Type 0
+NamesPlace w r = r ≡ positionOf w
 
 abbrev pub TakesApart : Object → ℕ → Asked → Type 0
 TakesApart o w r = r ≡ takenApart o w

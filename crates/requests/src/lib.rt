@@ -9,6 +9,7 @@ use steps::Ma50;
 use steps::Mv20;
 use steps::Mv25;
 use steps::Mw250;
+pub use taking::position;
 pub use taking::take_apart;
 
 // What a request asks of an object, by the object's kind and in its steps. A PPS voltage counts 20 mV and an AVS

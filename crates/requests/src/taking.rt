@@ -1,7 +1,7 @@
 // A request word taken apart. Every bit place of a request stands here and, for reserved bits, in judging.rt.
 ghost use mathlib.Core.Path.{_≡_};
-ghost use Rattle.requests.specs.Taking.{positionOf, mismatchOf, operatingIn, maximumIn, ppsVolts, avsVolts, currentIn, requestOf};
-ghost use Rattle.requests.specs.Promises.{TakesApart};
+ghost use Rattle.requests.specs.Taking.{mismatchOf, operatingIn, maximumIn, ppsVolts, avsVolts, currentIn, requestOf};
+ghost use Rattle.requests.specs.Promises.{NamesPlace, TakesApart};
 use crate::Asked;
 use crate::Request;
 use objects::Object;
@@ -11,8 +11,9 @@ use steps::Mv20;
 use steps::Mv25;
 use steps::Mw250;
 
-pub(crate) fn position(word: u32) -> u8
-    ensures { λ r. ⌜ r ≡ positionOf word ⌝ }
+// The place of the object that a request names, from 1; whether a list has such a place is `answer`'s to say.
+pub fn position(word: u32) -> u8
+    ensures { λ r. ⌜ NamesPlace word r ⌝ }
 {
     ((word >> 28) & 0xF) as u8
 }

@@ -1,6 +1,6 @@
 -- What rounding down and up give, over numerator and divisor: the greatest and the least, how the two differ, and that both rise.
 -- Assumes nothing.
-use mathlib.Core.Path.{_≡_, refl, sym, ap, _∙_}
+use mathlib.Core.Path.{_≡_, refl, sym, ap, _∙_, subst}
 use Prim.Native.Nat.{ℕ, zero, suc, _+_, _*_, _/_, _%_, _≤_, _<_}
 use native.Mathlib.Nat.{
   le-div-iff-mul-le,
@@ -15,6 +15,9 @@ use native.Mathlib.Nat.{
   le-antisymm,
   le-of-mul-le-mul-right,
   le-mul-of-pos-right,
+  mul-le-mul-right,
+  mul-assoc,
+  mul-pos,
 }
 use native.Mathlib.Omega.{arith}
 use Rattle.steps.specs.Rounding.{downOf, upOf}
@@ -125,3 +128,21 @@ up-le-self q zero = omega (arith, up-none q 0 refl)
 up-le-self q (suc d) =
     let h : 0 < suc d = omega arith in
     up-least q (suc d) q h (le-mul-of-pos-right q h)
+
+-- ---- numerator and divisor in a smaller step: the quotient is the same
+
+pub up-scaled : (q d k : ℕ) → 0 < d → 0 < k → upOf (q * k) (d * k) ≡ upOf q d
+up-scaled q d k pos more = le-antisymm at-most at-least where
+  all-pos : 0 < d * k
+  all-pos = mul-pos pos more
+
+  at-most : upOf (q * k) (d * k) ≤ upOf q d
+  at-most =
+      up-least (q * k) (d * k) (upOf q d) all-pos
+      (subst (λ (n : ℕ). q * k ≤ n) (mul-assoc (upOf q d) d k) (mul-le-mul-right k (up-over q d pos)))
+
+  at-least : upOf q d ≤ upOf (q * k) (d * k)
+  at-least =
+      up-least q d (upOf (q * k) (d * k)) pos
+      (le-of-mul-le-mul-right
+      (subst (λ (n : ℕ). q * k ≤ n) (sym (mul-assoc (upOf (q * k) (d * k)) d k)) (up-over (q * k) (d * k) all-pos)) more)

@@ -139,6 +139,17 @@ refused-so refused [] f x = absurd (f refl)
 refused-so refused (refusal true n p ∷ rs) f x = refl
 refused-so refused (refusal false n p ∷ rs) f x = refused-so refused rs f x
 
+-- ---- one table after another, judged in turn
+
+module _ {A : Type 0} (refused : ℕ → ℕ → A) (xs ys : List Refusal) (answer : A) where
+  -- a refusal of the first decides
+  pub stops : (verdictOf xs .number ≡ 0 → ⊥) → firstOf refused (xs ++ ys) answer ≡ refused (verdictOf xs .number) (verdictOf xs .place)
+  stops f = onward refused answer xs ys ∙ refused-so refused xs f (firstOf refused ys answer)
+
+  -- else the second does
+  pub goes-on : numbered xs ≡ true → verdictOf xs .number ≡ 0 → firstOf refused (xs ++ ys) answer ≡ firstOf refused ys answer
+  goes-on t e = onward refused answer xs ys ∙ all-missed refused (firstOf refused ys answer) xs (none-applied xs t e)
+
 -- ---- the first refusal theorem (demand 1)
 
 -- number n at place p applies, and no row before it does

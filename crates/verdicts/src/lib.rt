@@ -60,3 +60,20 @@ pub const AVS_VOLTAGE_NOT_WHOLE: u8 = 23;
 pub const OPERATING_TOO_LARGE: u8 = 24;
 
 pub const MAXIMUM_TOO_LARGE: u8 = 25;
+
+// Ports that share.
+pub const ROW_COUNT: u8 = 30;
+
+pub const SET_UP_MAXIMUM: u8 = 31;
+
+pub const CAPACITY: u8 = 32;
+
+pub const NO_SUCH_PORT: u8 = 33;
+
+pub const PORT_IN_USE: u8 = 34;
+
+pub const PORT_NOT_ATTACHED: u8 = 35;
+
+pub const NO_POWER_NOW: u8 = 36;
+
+pub const ROWS_NOT_SOUND: u8 = 37;
