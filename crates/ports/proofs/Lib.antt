@@ -1,0 +1,9 @@
+pub mod Sound
+pub mod SoundTests
+pub mod RuleLists
+pub mod Sums
+pub mod Passing
+pub mod Powers
+pub mod Judged
+pub mod Asking
+pub mod Offering

@@ -1,0 +1,66 @@
+-- A port that is offered power (01, "Attach and advertise set P to ..., and return the list"): its list can be built.
+-- Assumes nothing.
+use mathlib.Core.Path.{_≡_, refl, ap, _∙_}
+use mathlib.Core.Bool.{Bool, true, false, not, _||_}
+use Prim.Native.Nat.{ℕ, _+_, _-_, _≤_, min}
+use native.Mathlib.Nat.{min-le-left, le-min}
+use native.Mathlib.Omega.{arith}
+use lib.Dec.{eqb}
+use borrow.Author.Tests.{not-false}
+use Rattle.verdicts.specs.declared.Verdict.{Verdict}
+use Rattle.verdicts.specs.Refusals.{success}
+use Rattle.verdicts.proofs.First.{NoneApply}
+use Rattle.lists.specs.declared.Listing.{Listing}
+use Rattle.rules.specs.Profiles.{badCable}
+use Rattle.rules.specs.Building.{builtOf}
+use Rattle.ports.specs.declared.Row.{Row}
+use Rattle.ports.specs.declared.Ports.{Ports}
+use Rattle.ports.specs.Rows.{portRow, leftFor, presentFor, offered}
+use Rattle.ports.specs.Soundness.{soundRow}
+use Rattle.ports.specs.RuleLists.{ruleProfile, ruleList}
+use Rattle.ports.specs.Refusing.{portRefusals}
+use Rattle.ports.proofs.Sound.{sound-empty, sound-attached, limits-of, either-cable}
+use Rattle.ports.proofs.RuleLists.{Offerable, rule-list-built}
+use Rattle.ports.proofs.Passing.{row-sound, own-fits}
+
+-- every row of sound rows holds at least 15
+pub held-from-15 : (y : Row) → soundRow y ≡ true → 15 ≤ y .held .0
+held-from-15 y s = go (eqb (y .cable) 0) refl where
+  go : (b : Bool) → eqb (y .cable) 0 ≡ b → 15 ≤ y .held .0
+  go true e = omega (arith, sound-empty y s e .held-15)
+  go false e = sound-attached y s e .held-low
+
+module _ (capacity : ℕ) (t : Ports) (port : ℕ) (x : NoneApply (portRefusals capacity t port)) where
+  pub left-from-15 : 15 ≤ leftFor capacity t port
+  left-from-15 =
+      let a = own-fits capacity t port x in
+      let b = held-from-15 (portRow t port) (row-sound capacity t port x) in
+      omega (arith, a, b)
+
+  -- the P that is offered is 15 or more, and no more than M
+  pub offered-from-15 : 15 ≤ presentFor capacity t port
+  unfolding presentFor
+  offered-from-15 = le-min (limits-of (portRow t port) (row-sound capacity t port x) .max-low) left-from-15
+
+  pub offered-to-max : presentFor capacity t port ≤ portRow t port .max .0
+  unfolding presentFor
+  offered-to-max = min-le-left (portRow t port .max .0) (leftFor capacity t port)
+
+  module _ (cable : ℕ) (good : badCable cable ≡ false) where
+    pub offerable : Offerable (offered capacity t port cable)
+    unfolding offered
+    offerable = record {
+      max-high = limits-of (portRow t port) (row-sound capacity t port x) .max-high;
+      present-low = let a = offered-from-15 in omega (arith, a);
+      present-high = offered-to-max;
+      cable-is = either-cable cable (not-false (eqb cable 3 || eqb cable 5) good);
+    }
+
+    pub list-offered : builtOf (ruleProfile (offered capacity t port cable)) ≡ record {
+      verdict = success;
+      list = ruleList
+          (offered capacity t port cable);
+    }
+    list-offered =
+        ap (λ (v : Verdict). record { verdict = v; list = ruleList (offered capacity t port cable) })
+        (ap (λ (l : Listing). l .verdict) (rule-list-built (offered capacity t port cable) offerable))

@@ -1,0 +1,117 @@
+-- What a sound row says, and back (01, "Ports that share").
+-- Assumes nothing.
+use mathlib.Core.Path.{_≡_, refl, sym, ap, _∙_}
+use mathlib.Core.Bool.{Bool, true, false, cond, _&&_, _||_, and-eq-true-iff}
+use mathlib.Core.Logic.{_⊎_, inl, inr, ⊎-elim}
+use Prim.Native.Nat.{ℕ, _≤_}
+use lib.Dec.{leb, eqb}
+use borrow.Author.Tests.{leb-true, le-leb, eqb-true, eq-eqb}
+use Rattle.steps.specs.Ranges.{within}
+use Rattle.ports.specs.declared.Row.{Row}
+use Rattle.ports.specs.Soundness.{soundEmpty, soundAttached, soundRow}
+
+-- "Rows are sound when M is 15..200, PPS is 0 or 1"
+pub record SoundLimits (y : Row) : Type 0 where
+  pub max-low : 15 ≤ y .max .0
+  pub max-high : y .max .0 ≤ 200
+  pub pps-high : y .pps ≤ 1
+
+-- ".. an attached one has cable 3 or 5 and 15 ≤ held ≤ P ≤ M"
+pub record SoundAttached (y : Row) : Type 0 where
+  pub limits : SoundLimits y
+  pub cable-is : (y .cable ≡ 3) ⊎ (y .cable ≡ 5)
+  pub held-low : 15 ≤ y .held .0
+  pub held-high : y .held .0 ≤ y .present .0
+  pub present-high : y .present .0 ≤ y .max .0
+
+-- ".. an empty port is as above": "Empty means cable 0, P 0, held 15."
+pub record SoundEmpty (y : Row) : Type 0 where
+  pub limits : SoundLimits y
+  pub no-cable : y .cable ≡ 0
+  pub no-present : y .present .0 ≡ 0
+  pub held-15 : y .held .0 ≡ 15
+
+pub either-cable : (c : ℕ) → (eqb c 3 || eqb c 5) ≡ true → (c ≡ 3) ⊎ (c ≡ 5)
+either-cable c t = go (eqb c 3) refl t where
+  go : (b : Bool) → eqb c 3 ≡ b → (b || eqb c 5) ≡ true → (c ≡ 3) ⊎ (c ≡ 5)
+  go true e t = inl (eqb-true c 3 e)
+  go false e t = inr (eqb-true c 5 t)
+
+pub cable-good : (c : ℕ) → (c ≡ 3) ⊎ (c ≡ 5) → (eqb c 3 || eqb c 5) ≡ true
+cable-good c s = ⊎-elim (λ e. ap (λ (n : ℕ). eqb n 3 || eqb n 5) e) (λ e. ap (λ (n : ℕ). eqb n 3 || eqb n 5) e) s
+
+pub cable-not-0 : (c : ℕ) → (c ≡ 3) ⊎ (c ≡ 5) → eqb c 0 ≡ false
+cable-not-0 c s = ⊎-elim (λ e. ap (λ (n : ℕ). eqb n 0) e) (λ e. ap (λ (n : ℕ). eqb n 0) e) s
+
+module _ (y : Row) where
+  abbrev port : Bool
+  port = cond (eqb (y .cable) 0) (soundEmpty y) (soundAttached y)
+
+  pub limits-of : soundRow y ≡ true → SoundLimits y
+  unfolding soundRow
+  limits-of s =
+      let a = and-eq-true-iff (within 15 200 (y .max .0)) (leb (y .pps) 1 && port) .0 s in
+      let m = and-eq-true-iff (leb 15 (y .max .0)) (leb (y .max .0) 200) .0 (a .0) in
+      record {
+        max-low = leb-true 15 (y .max .0) (m .0);
+        max-high = leb-true (y .max .0) 200 (m .1);
+        pps-high = leb-true (y .pps) 1 (and-eq-true-iff (leb (y .pps) 1) port .0 (a .1) .0);
+      }
+
+  port-of : soundRow y ≡ true → port ≡ true
+  unfolding soundRow
+  port-of s = and-eq-true-iff (leb (y .pps) 1) port .0 (and-eq-true-iff (within 15 200 (y .max .0)) (leb (y .pps) 1 && port) .0 s .1) .1
+
+  of-both : SoundLimits y → port ≡ true → soundRow y ≡ true
+  unfolding soundRow
+  of-both l p =
+      and-eq-true-iff (within 15 200 (y .max .0)) (leb (y .pps) 1 && port) .1 (
+        and-eq-true-iff (leb 15 (y .max .0)) (leb (y .max .0) 200) .1 (le-leb 15 (y .max .0) (l .max-low), le-leb (y .max .0) 200 (l .max-high)),
+        and-eq-true-iff (leb (y .pps) 1) port .1 (le-leb (y .pps) 1 (l .pps-high), p),
+      )
+
+  pub sound-attached : soundRow y ≡ true → eqb (y .cable) 0 ≡ false → SoundAttached y
+  sound-attached s e =
+      let t : soundAttached y ≡ true = sym (ap (λ (b : Bool). cond b (soundEmpty y) (soundAttached y)) e) ∙ port-of s in
+      let held = leb 15 (y .held .0) in
+      let below = leb (y .held .0) (y .present .0) in
+      let within-max = leb (y .present .0) (y .max .0) in
+      let a = and-eq-true-iff (eqb (y .cable) 3 || eqb (y .cable) 5) (held && (below && within-max)) .0 t in
+      let b = and-eq-true-iff held (below && within-max) .0 (a .1) in
+      let c = and-eq-true-iff below within-max .0 (b .1) in
+      record {
+        limits = limits-of s;
+        cable-is = either-cable (y .cable) (a .0);
+        held-low = leb-true 15 (y .held .0) (b .0);
+        held-high = leb-true (y .held .0) (y .present .0) (c .0);
+        present-high = leb-true (y .present .0) (y .max .0) (c .1);
+      }
+
+  -- and back
+  pub attached-sound : SoundAttached y → soundRow y ≡ true
+  attached-sound a =
+      of-both (a .limits)
+      (ap (λ (b : Bool). cond b (soundEmpty y) (soundAttached y)) (cable-not-0 (y .cable) (a .cable-is))
+      ∙ rw (
+        cable-good (y .cable) (a .cable-is),
+        le-leb 15 (y .held .0) (a .held-low),
+        le-leb (y .held .0) (y .present .0) (a .held-high),
+        le-leb (y .present .0) (y .max .0) (a .present-high),
+      ))
+
+  pub sound-empty : soundRow y ≡ true → eqb (y .cable) 0 ≡ true → SoundEmpty y
+  sound-empty s e =
+      let t : soundEmpty y ≡ true = sym (ap (λ (b : Bool). cond b (soundEmpty y) (soundAttached y)) e) ∙ port-of s in
+      let a = and-eq-true-iff (eqb (y .present .0) 0) (eqb (y .held .0) 15) .0 t in
+      record {
+        limits = limits-of s;
+        no-cable = eqb-true (y .cable) 0 e;
+        no-present = eqb-true (y .present .0) 0 (a .0);
+        held-15 = eqb-true (y .held .0) 15 (a .1);
+      }
+
+  pub empty-sound : SoundEmpty y → soundRow y ≡ true
+  empty-sound a =
+      of-both (a .limits)
+      (ap (λ (b : Bool). cond b (soundEmpty y) (soundAttached y)) (eq-eqb (y .cable) 0 (a .no-cable))
+      ∙ rw (eq-eqb (y .present .0) 0 (a .no-present), eq-eqb (y .held .0) 15 (a .held-15)))

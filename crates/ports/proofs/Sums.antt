@@ -1,0 +1,63 @@
+-- Figures together: place by place, bounded, and with one of them apart.
+-- Assumes nothing.
+use mathlib.Core.Path.{_≡_, refl, sym, ap, ap₂, _∙_, subst}
+use mathlib.Core.Bool.{Bool, true, false, cond}
+use mathlib.Core.Logic.{⊎-elim}
+use Prim.Native.Nat.{ℕ, zero, suc, _+_, _-_, _*_, _≤_, _<_}
+use native.Mathlib.Nat.{eq-or-lt-of-le, le-of-suc-le-suc, lt-suc-self}
+use native.Mathlib.Numerals.{add-one}
+use native.Mathlib.Omega.{arith}
+use lib.Dec.{eqb}
+use borrow.Author.Tests.{eq-eqb, ne-eqb}
+use Rattle.ports.specs.Rows.{together, besides}
+
+pub none-together : (f : ℕ → ℕ) → together f 0 ≡ 0
+unfolding together
+none-together f = refl
+
+-- one place more
+pub more-together : (f : ℕ → ℕ) (k : ℕ) → together f (k + 1) ≡ together f k + f k
+unfolding together
+more-together f k = rw (add-one k) refl
+
+pub same-figures : (f g : ℕ → ℕ) (n : ℕ) → ((k : ℕ) → k < n → f k ≡ g k) → together f n ≡ together g n
+unfolding together
+same-figures f g zero e = refl
+same-figures f g (suc n) e = ap₂ _+_ (same-figures f g n (λ k h. e k (omega arith))) (e n (lt-suc-self n))
+
+pub at-most-together : (f g : ℕ → ℕ) (n : ℕ) → ((k : ℕ) → k < n → f k ≤ g k) → together f n ≤ together g n
+unfolding together
+at-most-together f g zero h = omega arith
+at-most-together f g (suc n) h = omega (arith, at-most-together f g n (λ k l. h k (omega arith)), h n (lt-suc-self n))
+
+-- ---- one figure apart
+
+pub besides-own : (own : ℕ) (f : ℕ → ℕ) → besides own f own ≡ 0
+unfolding besides
+besides-own own f = rw (eq-eqb own own refl) refl
+
+pub besides-other : (own : ℕ) (f : ℕ → ℕ) (k : ℕ) → (k ≡ own → ⊥) → besides own f k ≡ f k
+unfolding besides
+besides-other own f k h = rw (ne-eqb k own h) refl
+
+-- past the own place nothing is left out
+all-others : (own : ℕ) (f : ℕ → ℕ) (n : ℕ) → n ≤ own → together (besides own f) n ≡ together f n
+all-others own f n h = same-figures (besides own f) f n (λ k l. besides-other own f k (λ e. absurd (omega arith)))
+
+pub one-apart : (own : ℕ) (f : ℕ → ℕ) (n : ℕ) → own < n → together f n ≡ together (besides own f) n + f own
+unfolding together
+one-apart own f zero h = absurd (omega arith)
+one-apart own f (suc n) h = ⊎-elim
+    (λ e.
+    let a = all-others own f n (omega arith) in
+    let b : besides own f n ≡ 0 = ap (λ (k : ℕ). besides own f k) (sym e) ∙ besides-own own f in
+    let c : f n ≡ f own = ap f (sym e) in
+    omega (arith, a, b, c))
+    (λ l.
+    let a = one-apart own f n l in
+    let b = besides-other own f n (λ e. absurd (omega arith)) in
+    omega (arith, a, b))
+    (eq-or-lt-of-le (le-of-suc-le-suc h))
+
+pub others-at-most : (own : ℕ) (f : ℕ → ℕ) (n : ℕ) → own < n → together (besides own f) n + f own ≤ together f n
+others-at-most own f n h = let e = one-apart own f n h in omega (arith, e)
