@@ -1,0 +1,5 @@
+pub mod BothWays
+pub mod Readings
+pub mod Writings
+pub mod Unread
+pub mod RoundTrips

@@ -1,0 +1,76 @@
+-- What reading gives as flat objects: refused as the shape check refuses, and zero past the count.
+-- Assumes nothing.
+use mathlib.Core.Path.{_≡_, refl, ap, _∙_}
+use mathlib.Core.Bool.{Bool, true, false}
+use mathlib.Core.List.{List, [], _∷_}
+use Prim.Native.Nat.{ℕ, _≤_}
+use native.Mathlib.Omega.{arith}
+use borrow.Author.Tests.{ltb-true, ltb-false}
+use lib.Dec.{ltb}
+use lib.ListN.{getD}
+use Rattle.verdicts.specs.Refusals.{Refusal, refusal, firstOf, success}
+use Rattle.lists.specs.declared.Words.{Words}
+use Rattle.lists.specs.declared.Place.{Place}
+use Rattle.lists.specs.declared.Objects.{Objects}
+use Rattle.lists.specs.declared.Reading.{Reading}
+use Rattle.lists.specs.Seven.{sevenTo}
+use Rattle.lists.specs.Shape.{shapeRefusals}
+use Rattle.lists.specs.Reading.{emptyPlace, noObjects, placeOf, readRefused, readOf}
+use Rattle.lists.proofs.Sevens.{none-filled, filled-at, past-filled}
+use Rattle.lists.proofs.Readings.{readAs, read-empty}
+use Rattle.flat.specs.declared.FlatObject.{FlatObject}
+use Rattle.flat.specs.Flat.{flatOf}
+use Rattle.flat.specs.Reading.{emptyFlat, flatAt, flatObjects, flatReadingOf}
+use Rattle.flat.specs.Kept.{noFlat}
+
+-- an empty place is flattened to an empty one
+pub empty-flat : flatOf (emptyPlace .object) ≡ emptyFlat
+unfolding flatOf
+empty-flat = refl
+
+no-flat : flatObjects noObjects ≡ noFlat
+unfolding sevenTo flatOf
+no-flat = refl
+
+-- what holds of each refusal and of the answer holds of the first of them
+by-first : {A : Type 0} (P : A → Type 0) (refused : ℕ → ℕ → A) (rs : List Refusal) (answer : A) → ((n p : ℕ) → P (refused n p)) → P answer
+    → P (firstOf refused rs answer)
+unfolding firstOf
+by-first P refused [] answer r a = a
+by-first P refused (refusal true n p ∷ rs) answer r a = r n p
+by-first P refused (refusal false n p ∷ rs) answer r a = by-first P refused rs answer r a
+
+abbrev EmptyPast : Objects → Type 0
+EmptyPast o = (k : ℕ) → o .count ≤ k → getD (o .places) k emptyPlace ≡ emptyPlace
+
+module _ (l : Words) where
+  pub flat-read-verdict : flatReadingOf l .verdict ≡ readOf l .verdict
+  unfolding flatReadingOf
+  flat-read-verdict = refl
+
+  pub flat-read-list : flatReadingOf l .list ≡ flatObjects (readOf l .list)
+  unfolding flatReadingOf
+  flat-read-list = refl
+
+  -- "A refusal returns its number, the place, and zero for all else, an empty list included"
+  pub flat-read-empty : (flatReadingOf l .verdict ≡ success → ⊥) → flatReadingOf l .list ≡ noFlat
+  flat-read-empty f = flat-read-list ∙ ap flatObjects (read-empty l (λ z. f (flat-read-verdict ∙ z))) ∙ no-flat
+
+  read-past : EmptyPast (readOf l .list)
+  unfolding readOf
+  read-past =
+      by-first (λ (r : Reading). EmptyPast (r .list)) readRefused (shapeRefusals l) (readAs l)
+      (λ n p k h. ap (λ (ps : List Place). getD ps k emptyPlace) (none-filled (placeOf (l .words)) emptyPlace) ∙ past-filled (placeOf (l .words)) emptyPlace 0 k h)
+      (λ k h. past-filled (placeOf (l .words)) emptyPlace (l .count) k h)
+
+  -- "places past the count are returned as zero (an object as fixed, all fields zero)"
+  pub flat-read-past : (k : ℕ) → flatReadingOf l .list .count ≤ k → getD (flatReadingOf l .list .places) k emptyFlat ≡ emptyFlat
+  unfolding flatReadingOf
+  flat-read-past k h = go (ltb k 7) refl where
+    f : ℕ → FlatObject
+    f = flatAt (readOf l .list .places)
+
+    go : (b : Bool) → ltb k 7 ≡ b → getD (sevenTo f emptyFlat 7) k emptyFlat ≡ emptyFlat
+    go true e =
+        filled-at f emptyFlat 7 k (omega arith) (ltb-true k 7 e) ∙ ap (λ (p : Place). flatOf (p .object)) (read-past k h) ∙ empty-flat
+    go false e = past-filled f emptyFlat 7 k (ltb-false k 7 e)

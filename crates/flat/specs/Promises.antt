@@ -1,0 +1,25 @@
+-- What each public call of this crate promises of its answer. The contracts cite these names, and so do the theorems over them.
+-- Assumes nothing.
+use mathlib.Core.Path.{_≡_}
+use Rattle.objects.specs.declared.Object.{Object}
+use Rattle.lists.specs.declared.Words.{Words}
+use Rattle.lists.specs.declared.Listing.{Listing}
+use Rattle.flat.specs.declared.FlatObject.{FlatObject}
+use Rattle.flat.specs.declared.FlatObjects.{FlatObjects}
+use Rattle.flat.specs.declared.FlatReading.{FlatReading}
+use Rattle.flat.specs.declared.Raised.{Raised}
+use Rattle.flat.specs.Flat.{flatOf, raisedOf}
+use Rattle.flat.specs.Reading.{flatReadingOf}
+use Rattle.flat.specs.Writing.{flatWriteOf}
+
+abbrev pub Flattens : Object → FlatObject → Type 0
+Flattens o r = r ≡ flatOf o
+
+abbrev pub Raises : FlatObject → Raised → Type 0
+Raises x r = r ≡ raisedOf x
+
+abbrev pub FlatReads : Words → FlatReading → Type 0
+FlatReads l r = r ≡ flatReadingOf l
+
+abbrev pub FlatWrites : FlatObjects → Listing → Type 0
+FlatWrites f r = r ≡ flatWriteOf f

@@ -1,0 +1,32 @@
+-- Reading a list as flat objects: what `lists` reads, each place flattened.
+-- Assumes nothing.
+use mathlib.Core.List.{List}
+use Prim.Native.Nat.{ℕ}
+use lib.ListN.{getD}
+use Rattle.lists.specs.declared.Words.{Words}
+use Rattle.lists.specs.declared.Place.{Place}
+use Rattle.lists.specs.declared.Objects.{Objects}
+use Rattle.lists.specs.declared.Reading.{Reading}
+use Rattle.lists.specs.Seven.{sevenTo}
+use Rattle.lists.specs.Reading.{emptyPlace, readOf}
+use Rattle.flat.specs.declared.FlatObject.{FlatObject}
+use Rattle.flat.specs.declared.FlatObjects.{FlatObjects}
+use Rattle.flat.specs.declared.FlatReading.{FlatReading}
+use Rattle.flat.specs.Flat.{noMv50, noMa10, flatFixed, flatOf}
+
+-- "places past the count are returned as zero (an object as fixed, all fields zero)"
+abbrev pub emptyFlat : FlatObject
+emptyFlat = flatFixed 0 0 noMv50 noMa10
+
+-- the object at place k + 1, flattened
+abbrev pub flatAt : List Place → ℕ → FlatObject
+flatAt ps k = flatOf (getD ps k emptyPlace .object)
+
+abbrev pub flatObjects : Objects → FlatObjects
+flatObjects o = record { places = sevenTo (flatAt (o .places)) emptyFlat 7; count = o .count }
+
+abbrev pub flatReading : Reading → FlatReading
+flatReading r = record { verdict = r .verdict; list = flatObjects (r .list) }
+
+unfoldable pub flatReadingOf : Words → FlatReading
+flatReadingOf l = flatReading (readOf l)

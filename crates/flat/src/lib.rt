@@ -1,0 +1,100 @@
+// Objects as C takes them. `objects::Object` is an enum with data, which no C struct is: here is one struct for all five
+// kinds, and the lists of `lists` are read and written with it.
+mod flattening;
+mod reading;
+mod writing;
+
+pub use flattening::flatten;
+pub use flattening::raise;
+use objects::Object;
+pub use reading::flat_read;
+use steps::Ma10;
+use steps::Ma50;
+use steps::Mv50;
+use steps::Mv100;
+use steps::Mw250;
+use verdicts::Verdict;
+pub use writing::flat_write;
+
+// The five kinds, in the order of 01 ("Object words"). Fixed is 0, so that an empty place is all zero.
+pub const KIND_FIXED: u8 = 0;
+
+pub const KIND_BATTERY: u8 = 1;
+
+pub const KIND_VARIABLE: u8 = 2;
+
+pub const KIND_PPS: u8 = 3;
+
+pub const KIND_AVS: u8 = 4;
+
+// One object of any kind: each field has one step of measure, whatever the kind. A field that a kind does not have is
+// zero when it is given out, and not read when it is taken in.
+#[repr(C)]
+pub struct FlatObject {
+    // One of the five above; any other number is no object.
+    pub kind: u8,
+    // Fixed.
+    pub flags: u8,
+    // Fixed and AVS: peak current.
+    pub peak: u8,
+    // PPS: power limited.
+    pub limited: u8,
+    // Fixed: the voltage, in 50 mV.
+    pub volts: Mv50,
+    // Battery and variable: the maximum voltage, in 50 mV.
+    pub max: Mv50,
+    // Battery and variable: the minimum voltage, in 50 mV.
+    pub min: Mv50,
+    // Battery: the power, in 250 mW.
+    pub power: Mw250,
+    // Fixed and variable: the current, in 10 mA.
+    pub current: Ma10,
+    // PPS: the maximum voltage, in 100 mV.
+    pub max100: Mv100,
+    // PPS: the minimum voltage, in 100 mV.
+    pub min100: Mv100,
+    // PPS: the current, in 50 mA.
+    pub current50: Ma50,
+    // AVS: the current for 9 to 15 V, in 10 mA.
+    pub low: Ma10,
+    // AVS: the current for 15 to 20 V, in 10 mA.
+    pub high: Ma10,
+}
+
+// Seven objects and how many of them count. What lies past the count is returned as zero and not read on the way in.
+#[repr(C)]
+pub struct FlatObjects {
+    pub places: [FlatObject; 7],
+    pub count: u8,
+}
+
+// What reading gives: on a refusal the list is empty and all zero.
+#[repr(C)]
+pub struct FlatReading {
+    pub verdict: Verdict,
+    pub list: FlatObjects,
+}
+
+// The object of a flat one, or a kind number that is none of the five (refusal 12).
+pub enum Raised {
+    Known(Object),
+    Unknown,
+}
+
+// A place past the count: a fixed object with all fields zero.
+const EMPTY_FLAT: FlatObject = FlatObject {
+    kind: KIND_FIXED,
+    flags: 0,
+    peak: 0,
+    limited: 0,
+    volts: Mv50(0),
+    max: Mv50(0),
+    min: Mv50(0),
+    power: Mw250(0),
+    current: Ma10(0),
+    max100: Mv100(0),
+    min100: Mv100(0),
+    current50: Ma50(0),
+    low: Ma10(0),
+    high: Ma10(0),
+};
