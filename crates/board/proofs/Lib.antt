@@ -1,0 +1,6 @@
+pub mod RowLaws
+pub mod Lent
+pub mod Known
+pub mod EmptiedTo
+pub mod Said
+pub mod Callees

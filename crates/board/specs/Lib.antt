@@ -1,0 +1,3 @@
+pub mod ListPromises
+pub mod Rows
+pub mod Promises

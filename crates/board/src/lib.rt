@@ -1,0 +1,19 @@
+// What firmware calls (01, "Ports that share", and every public call of the floors below), each under a C name that begins with
+// `arin_`. `rt staticlib board` makes one archive of them.
+mod listing;
+mod rows;
+mod sharing;
+
+pub use listing::arin_answer;
+pub use listing::arin_build;
+pub use listing::arin_check;
+pub use listing::arin_default_profile;
+pub use listing::arin_read;
+pub use listing::arin_shape;
+pub use listing::arin_write;
+pub use sharing::arin_advertise;
+pub use sharing::arin_attach;
+pub use sharing::arin_detach;
+pub use sharing::arin_remaining;
+pub use sharing::arin_request;
+pub use sharing::arin_set_up;
