@@ -98,13 +98,13 @@ module _ (p : Profile) (b : NoneApply (buildRefusals p)) where
 
   -- ---- each word
 
-  good : (k : ℕ) → k < n → slotGood (slot k) ≡ true
+  pub good : (k : ℕ) → k < n → slotGood (slot k) ≡ true
   good k h = good-at m high k (omega (arith, n-in))
 
   own : (k : ℕ) → k < n → encodeOf (objectFor p (eqb k 0) (slot k)) ≡ Word (getD ws k 0)
   own k h = has-word p profile-clear (eqb k 0) (slot k) (good k h) ∙ ap Word (sym (filled-at (wordFor p) 0 n k n-high h))
 
-  known : (k : ℕ) → k < n → decodeOf (getD ws k 0) ≡ Known (objectFor p (eqb k 0) (slot k))
+  pub known : (k : ℕ) → k < n → decodeOf (getD ws k 0) ≡ Known (objectFor p (eqb k 0) (slot k))
   known k h = encode-decode (objectFor p (eqb k 0) (slot k)) (getD ws k 0) (own k h)
 
   in-order : (k : ℕ) → k < n → outOfOrder (eqb k 0) (decodeOf (getD ws (k - 1) 0)) (decodeOf (getD ws k 0)) ≡ false

@@ -1,5 +1,6 @@
 -- The contract of each public call, by name: `ShapeAnswers l r` says that the contract of `shape` allows the answer r at the list l.
 -- It is the clause of the source itself, as the prover reads it (`Post` of the arguments, the answer and the arguments at exit).
+-- The clauses of the calls over lent rows are the names of `board`'s specs/Promises.antt themselves.
 -- Assumes nothing.
 use mathlib.Core.Bool.{Bool}
 use Prim.Native.Nat.{ℕ}
@@ -52,8 +53,21 @@ use Rattle.rules.proofs.default_profile.Reads as default-profile
 use Rattle.rules.proofs.build.Reads as build
 use Rattle.rules.proofs.check.Reads as check
 use Rattle.requests.specs.declared.Asked.{Asked}
+use Rattle.requests.proofs.position.Reads as position
 use Rattle.requests.proofs.take_apart.Reads as take-apart
 use Rattle.requests.proofs.answer.Reads as answer
+use Rattle.ports.specs.declared.Row.{Row}
+use Rattle.ports.specs.declared.Ports.{Ports}
+use Rattle.ports.specs.declared.Offer.{Offer}
+use Rattle.ports.specs.declared.Change.{Change}
+use Rattle.ports.specs.declared.RemainingPower.{RemainingPower}
+use Rattle.ports.proofs.emptied.Reads as emptied
+use Rattle.ports.proofs.set_up.Reads as set-up
+use Rattle.ports.proofs.attach.Reads as attach
+use Rattle.ports.proofs.advertise.Reads as advertise
+use Rattle.ports.proofs.request.Reads as request
+use Rattle.ports.proofs.detach.Reads as detach
+use Rattle.ports.proofs.remaining.Reads as remaining
 
 -- ---- steps
 
@@ -140,8 +154,34 @@ CheckAnswers p l r = check.Post tt (p, (l, tt)) r (p, (l, tt))
 
 -- ---- requests
 
+abbrev pub PositionAnswers : ℕ → ℕ → Type 0
+PositionAnswers w r = position.Post tt (w, tt) r (w, tt)
+
 abbrev pub TakeApartAnswers : Object → ℕ → Asked → Type 0
 TakeApartAnswers o w r = take-apart.Post tt (o, (w, tt)) r (o, (w, tt))
 
 abbrev pub AnswerAnswers : Words → ℕ → Verdict → Type 0
 AnswerAnswers l w r = answer.Post tt (l, (w, tt)) r (l, (w, tt))
+
+-- ---- ports
+
+abbrev pub EmptiedAnswers : Row → Row → Type 0
+EmptiedAnswers y r = emptied.Post tt (y, tt) r (y, tt)
+
+abbrev pub SetUpDecides : Ports → HalfWatts → Verdict → Type 0
+SetUpDecides t capacity r = set-up.Post tt (t, (capacity, tt)) r (t, (capacity, tt))
+
+abbrev pub AttachDecides : Ports → HalfWatts → ℕ → ℕ → Offer → Type 0
+AttachDecides t capacity port cable r = attach.Post tt (t, (capacity, (port, (cable, tt)))) r (t, (capacity, (port, (cable, tt))))
+
+abbrev pub AdvertiseDecides : Ports → HalfWatts → ℕ → Offer → Type 0
+AdvertiseDecides t capacity port r = advertise.Post tt (t, (capacity, (port, tt))) r (t, (capacity, (port, tt)))
+
+abbrev pub RequestDecides : Ports → HalfWatts → ℕ → ℕ → Change → Type 0
+RequestDecides t capacity port word r = request.Post tt (t, (capacity, (port, (word, tt)))) r (t, (capacity, (port, (word, tt))))
+
+abbrev pub DetachDecides : Ports → HalfWatts → ℕ → Change → Type 0
+DetachDecides t capacity port r = detach.Post tt (t, (capacity, (port, tt))) r (t, (capacity, (port, tt)))
+
+abbrev pub RemainingDecides : Ports → HalfWatts → RemainingPower → Type 0
+RemainingDecides t capacity r = remaining.Post tt (t, (capacity, tt)) r (t, (capacity, tt))

@@ -1,5 +1,6 @@
 pub mod Contracts
 pub mod Refusals
+pub mod SharingRefusals
 pub mod RoundTrips
 pub mod Unread
 pub mod OneOutcome
@@ -8,5 +9,19 @@ pub mod Built
 pub mod BuiltCurrents
 pub mod BuiltPasses
 pub mod PowerRules
+pub mod RuleLists
+pub mod AcceptedPower
+pub mod LentRows
+pub mod SoundRows
+pub mod History
+pub mod Kept
+pub mod Demand3
+pub mod NothingHidden
+pub mod RequestNumbers
 pub mod At15V
 pub mod MarkedCases
+pub mod WrongLibraries
+pub mod FlatContracts
+pub mod FlatOutcomes
+pub mod FlatRefusals
+pub mod FlatRoundTrips

@@ -22,11 +22,18 @@ use Rattle.rules.specs.Currents.{builtCurrent, progCurrent}
 use Rattle.rules.specs.Building.{objectFor, builtOf}
 use Rattle.requests.specs.Limits.{bitSet, avsTop, avsLimit}
 use Rattle.requests.specs.Answering.{answerOf}
+use Rattle.ports.specs.declared.Row.{Row}
+use Rattle.ports.specs.Rows.{together, besides, emptied, presentFor, offered, holding}
+use Rattle.ports.specs.Soundness.{soundRow}
+use Rattle.ports.specs.RuleLists.{rulePps, ruleProfile}
+use Rattle.ports.specs.Requests.{powerOf, heldFor}
+use Rattle.ports.specs.Lending.{lent, setUpAnswer, setUpRows, attachAnswer, attachRows, advertiseAnswer, advertiseRows, requestAnswer, requestRows}
 
--- what a call answers: a list with its verdict, or a verdict alone
+-- what a call answers: a list with its verdict, or a verdict alone; and the rows that a sharing call leaves
 pub data Answer : Type 0 where
   listed : Listing → Answer
   judged : Verdict → Answer
+  left : List Row → Answer
 
 -- what the definition gives, and what 01 says
 pub data Case : Type 0 where
@@ -60,6 +67,24 @@ abbrev asked : ℕ → ℕ → ℕ → Answer
 asked position volts current =
     judged (answerOf (words (0x0001912C ∷ 0x0002D12C ∷ 0x0004B12C ∷ 0x00064145 ∷ 0xE004B145 ∷ 0 ∷ 0 ∷ []) 5) (position * 2 ^ 28 + volts * 2 ^ 9 + current))
 
+-- capacity 200, two rows of M 130: each port by its cable, its P and what it holds
+abbrev pub port : ℕ → ℕ → ℕ → Row
+port cable present held = record { max = halfWatts 130; pps = 0; cable = cable; present = halfWatts present; held = halfWatts held }
+
+abbrev pub two : Row → Row → List Row
+two a b = a ∷ b ∷ []
+
+-- a fixed object's position, operating and maximum current in 10 mA
+abbrev pub fixed : ℕ → ℕ → ℕ
+fixed position current = position * 2 ^ 28 + current * 2 ^ 10 + current
+
+-- the list at P 130 and at P 70, with a 5 A cable
+abbrev at-130 : Answer
+at-130 = success-with (0x0001912C ∷ 0x0002D12C ∷ 0x0004B12C ∷ 0x00064145 ∷ 0xE004B145 ∷ 0 ∷ 0 ∷ []) 5
+
+abbrev at-70 : Answer
+at-70 = success-with (0x0001912C ∷ 0x0002D12C ∷ 0x0004B0E9 ∷ 0x000640AF ∷ 0xE003A4AF ∷ 0 ∷ 0 ∷ []) 5
+
 abbrev pub table : List Case
 table =
     -- the listing (36 W)
@@ -84,8 +109,35 @@ table =
     ∷ case (asked 5 602 65) (judged (verdict 23 0))
     ∷ case (asked 5 356 65) (judged (verdict 22 0))
     ∷ case (asked 6 600 65) (judged (verdict 20 0))
+    -- Capacity 200, two rows of M 130, 5 A: set up, whatever the rows held
+    ∷ case (judged (setUpAnswer 200 (two (port 1 2 3) (port 4 5 6)))) (judged success)
+    ∷ case (left (setUpRows 200 (two (port 1 2 3) (port 4 5 6)))) (left (two (port 0 0 15) (port 0 0 15)))
+    -- port 1 attaches (P 130)
+    ∷ case (listed (attachAnswer 200 (two (port 0 0 15) (port 0 0 15)) 1 5)) at-130
+    ∷ case (left (attachRows 200 (two (port 0 0 15) (port 0 0 15)) 1 5)) (left (two (port 5 130 15) (port 0 0 15)))
+    -- and takes 20 V at 3.25 A, held 130
+    ∷ case (judged (requestAnswer 200 (two (port 5 130 15) (port 0 0 15)) 1 (fixed 4 325))) (judged success)
+    ∷ case (left (requestRows 200 (two (port 5 130 15) (port 0 0 15)) 1 (fixed 4 325))) (left (two (port 5 130 130) (port 0 0 15)))
+    -- Port 2 attaches with P 70: 300, 300, 233, 175
+    ∷ case (listed (attachAnswer 200 (two (port 5 130 130) (port 0 0 15)) 2 5)) at-70
+    ∷ case (left (attachRows 200 (two (port 5 130 130) (port 0 0 15)) 2 5)) (left (two (port 5 130 130) (port 5 70 15)))
+    -- Then port 1 takes 9 V at 2 A, held 36
+    ∷ case (judged (requestAnswer 200 (two (port 5 130 130) (port 5 70 15)) 1 (fixed 2 200))) (judged success)
+    ∷ case (left (requestRows 200 (two (port 5 130 130) (port 5 70 15)) 1 (fixed 2 200))) (left (two (port 5 130 36) (port 5 70 15)))
+    -- port 2 advertises again with P 130
+    ∷ case (listed (advertiseAnswer 200 (two (port 5 130 36) (port 5 70 15)) 2)) at-130
+    ∷ case (left (advertiseRows 200 (two (port 5 130 36) (port 5 70 15)) 2)) (left (two (port 5 130 36) (port 5 130 15)))
+    -- and takes 20 V at 3.25 A
+    ∷ case (judged (requestAnswer 200 (two (port 5 130 36) (port 5 130 15)) 2 (fixed 4 325))) (judged success)
+    ∷ case (left (requestRows 200 (two (port 5 130 36) (port 5 130 15)) 2 (fixed 4 325))) (left (two (port 5 130 36) (port 5 130 130)))
+    -- Port 1 asks 20 V at 3.25 A: 36
+    ∷ case (judged (requestAnswer 200 (two (port 5 130 36) (port 5 130 130)) 1 (fixed 4 325))) (judged (verdict 36 1))
+    ∷ case (left (requestRows 200 (two (port 5 130 36) (port 5 130 130)) 1 (fixed 4 325))) (left (two (port 5 130 36) (port 5 130 130)))
+    -- It asks 9 V at 3 A: held 54
+    ∷ case (judged (requestAnswer 200 (two (port 5 130 36) (port 5 130 130)) 1 (fixed 2 300))) (judged success)
+    ∷ case (left (requestRows 200 (two (port 5 130 36) (port 5 130 130)) 1 (fixed 2 300))) (left (two (port 5 130 54) (port 5 130 130)))
     ∷ []
 
 pub marked-cases : map given table ≡ map said table
-unfolding firstOf eachPlace bits decodeOf reservedSet outOfBounds over100W mayFollow isFixed5V hasFixed avsDiffers bitSet avsTop avsLimit answerOf sevenTo downOf upOf wordOf defaultOf baseSlots progSlots builtCurrent progCurrent objectFor builtOf
+unfolding firstOf eachPlace bits decodeOf reservedSet outOfBounds over100W mayFollow isFixed5V hasFixed avsDiffers bitSet avsTop avsLimit answerOf sevenTo downOf upOf wordOf defaultOf baseSlots progSlots builtCurrent progCurrent objectFor builtOf together besides emptied presentFor offered holding soundRow rulePps ruleProfile powerOf heldFor lent setUpAnswer setUpRows attachAnswer attachRows advertiseAnswer advertiseRows requestAnswer requestRows
 marked-cases = refl

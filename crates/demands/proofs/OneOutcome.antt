@@ -11,7 +11,16 @@ use Rattle.demands.proofs.Contracts.{ShapeAnswers, ReadAnswers, WriteAn
 use Rattle.rules.specs.declared.Profile.{Profile}
 use Rattle.demands.proofs.Contracts.{DefaultAnswers, BuildAnswers, CheckAnswers}
 use Rattle.lists.specs.declared.Words.{Words}
-use Rattle.demands.proofs.Contracts.{TakeApartAnswers, AnswerAnswers}
+use Rattle.demands.proofs.Contracts.{PositionAnswers, TakeApartAnswers, AnswerAnswers}
+use mathlib.Core.List.{List}
+use Rattle.steps.specs.declared.HalfWatts.{HalfWatts}
+use Rattle.verdicts.specs.declared.Verdict.{Verdict}
+use Rattle.lists.specs.declared.Listing.{Listing}
+use Rattle.ports.specs.declared.Row.{Row}
+use Rattle.ports.specs.declared.Ports.{Ports}
+use Rattle.ports.specs.declared.RemainingPower.{RemainingPower}
+use Rattle.demands.proofs.Contracts.{EmptiedAnswers, SetUpDecides, AttachDecides, AdvertiseDecides, RequestDecides, DetachDecides, RemainingDecides}
+use Rattle.board.specs.Promises.{SharesSetUp, SharesAttach, SharesAdvertise, SharesRequest, SharesDetach, SharesRemaining}
 
 abbrev pub Settled : {A R : Type 0} → (A → R → Type 0) → Type 0
 Settled {A} {R} allows = (a : A) (r s : R) → allows a r → allows a s → r ≡ s
@@ -105,8 +114,58 @@ check-settles p l r s e f = only e f
 
 -- ---- requests
 
+pub position-settles : Settled PositionAnswers
+position-settles w r s e f = only e f
+
 pub take-apart-settles : (o : Object) → Settled (TakeApartAnswers o)
 take-apart-settles o w r s e f = only e f
 
 pub answer-settles : (l : Words) → Settled (AnswerAnswers l)
 answer-settles l w r s e f = only e f
+
+-- ---- ports, by value
+
+pub emptied-settles : Settled EmptiedAnswers
+emptied-settles y r s e f = only e f
+
+pub set-up-settles : (t : Ports) → Settled (SetUpDecides t)
+set-up-settles t capacity r s e f = only e f
+
+pub attach-settles : (t : Ports) (capacity : HalfWatts) (port : ℕ) → Settled (AttachDecides t capacity port)
+attach-settles t capacity port cable r s e f = only e f
+
+pub advertise-settles : (t : Ports) (capacity : HalfWatts) → Settled (AdvertiseDecides t capacity)
+advertise-settles t capacity port r s e f = only e f
+
+pub request-settles : (t : Ports) (capacity : HalfWatts) (port : ℕ) → Settled (RequestDecides t capacity port)
+request-settles t capacity port word r s e f = only e f
+
+pub detach-settles : (t : Ports) (capacity : HalfWatts) → Settled (DetachDecides t capacity)
+detach-settles t capacity port r s e f = only e f
+
+pub remaining-settles : (t : Ports) → Settled (RemainingDecides t)
+remaining-settles t capacity r s e f = only e f
+
+-- ---- over lent rows: the answer and every row at exit, for any rows at entry
+
+-- an answer and the rows at exit
+abbrev pub Both : (R : Type 0) → (R → List Row → Type 0) → Type 0
+Both R allows = (r s : R) (zs us : List Row) → allows r zs → allows s us → (r ≡ s) × (zs ≡ us)
+
+pub arin-set-up-settles : (ys : List Row) (capacity : ℕ) → Both Verdict (SharesSetUp ys capacity)
+arin-set-up-settles ys capacity r s zs us e f = (only (e .0) (f .0), only (e .1) (f .1))
+
+pub arin-attach-settles : (ys : List Row) (capacity port cable : ℕ) → Both Listing (SharesAttach ys capacity port cable)
+arin-attach-settles ys capacity port cable r s zs us e f = (only (e .0) (f .0), only (e .1) (f .1))
+
+pub arin-advertise-settles : (ys : List Row) (capacity port : ℕ) → Both Listing (SharesAdvertise ys capacity port)
+arin-advertise-settles ys capacity port r s zs us e f = (only (e .0) (f .0), only (e .1) (f .1))
+
+pub arin-request-settles : (ys : List Row) (capacity port word : ℕ) → Both Verdict (SharesRequest ys capacity port word)
+arin-request-settles ys capacity port word r s zs us e f = (only (e .0) (f .0), only (e .1) (f .1))
+
+pub arin-detach-settles : (ys : List Row) (capacity port : ℕ) → Both Verdict (SharesDetach ys capacity port)
+arin-detach-settles ys capacity port r s zs us e f = (only (e .0) (f .0), only (e .1) (f .1))
+
+pub arin-remaining-settles : (ys : List Row) → Settled (SharesRemaining ys)
+arin-remaining-settles ys capacity r s e f = only e f

@@ -57,7 +57,7 @@ encode-7 o r e = subst (λ (d : Encoded). encodedNumber d ≡ 7 ↔ (allFit (fie
 abbrev pub Answers : Verdict → List Refusal → Type 0
 Answers v rs = (v ≡ success ↔ NoneApply rs) × ((n p : ℕ) → (n ≡ 0 → ⊥) → v ≡ verdict n p ↔ First rs n p)
 
-answers : (v : Verdict) (rs : List Refusal) → (Exactly rs) → v ≡ verdictOf rs → Answers v rs
+pub answers : (v : Verdict) (rs : List Refusal) → (Exactly rs) → v ≡ verdictOf rs → Answers v rs
 answers v rs x e = subst (λ (u : Verdict). Answers u rs) (sym e) (x .succeeds, x .refuses)
 
 pub shape-refusals : (l : Words) (r : Verdict) → ShapeAnswers l r → Answers r (shapeRefusals l)

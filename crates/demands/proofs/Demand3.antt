@@ -1,0 +1,238 @@
+-- Demand 3: what holds after every run, of the figures that calls and answers alone give (design, "History").
+-- Assumes nothing.
+use mathlib.Core.Path.{_≡_, refl, sym, ap, _∙_, subst}
+use mathlib.Core.Bool.{Bool, true, false, not}
+use mathlib.Core.List.{List, [], _∷_, _++_}
+use mathlib.Core.Logic.{_↔_}
+use Prim.Native.Nat.{ℕ, _-_, _≤_, _<_, min}
+use native.Mathlib.Omega.{arith}
+use lib.Dec.{ltb, eqb}
+use lib.ListN.{length}
+use borrow.Author.Tests.{lt-ltb, le-ltb, ltb-true, ltb-false}
+use Rattle.verdicts.specs.declared.Verdict.{Verdict}
+use Rattle.verdicts.specs.Refusals.{Refusal, refusal, firstOf, verdict, success, verdictOf}
+use Rattle.verdicts.proofs.First.{NoneApply, none-append, all-missed, onward, hit, miss, refused-so}
+use Rattle.steps.proofs.RangeLaws.{inside}
+use Rattle.lists.specs.declared.Words.{Words}
+use Rattle.lists.specs.declared.Listing.{Listing}
+use Rattle.lists.specs.Writing.{writeRefused}
+use Rattle.rules.specs.Profiles.{badCable}
+use Rattle.requests.specs.Answering.{answerRefusals, answerOf}
+use Rattle.requests.proofs.Answers.{answer-numbered, answer-verdict}
+use Rattle.ports.specs.declared.Row.{Row}
+use Rattle.ports.specs.declared.RemainingPower.{RemainingPower}
+use Rattle.ports.specs.Rows.{halfWatts, portRow, allHeld, leftFor, together, besides, presentFor, offered}
+use Rattle.ports.specs.RuleLists.{rulePps, ruleProfile, ruleList}
+use Rattle.ports.specs.Requests.{newHeld}
+use Rattle.ports.specs.Refusing.{remainingRefusals, noSuchPort, portRefusals, cannotAttach, attachRefusals, notAttached, useRefusals, ownRefusals, noPowerNow, requestRefusals}
+use Rattle.ports.specs.Deciding.{powerLeft, noPowerLeft}
+use Rattle.ports.specs.Lending.{lent, attachAnswer, advertiseAnswer, requestAnswer, detachAnswer, remainingAnswer}
+use Rattle.ports.proofs.Passing.{sum-fits}
+use Rattle.ports.proofs.Judged.{clear}
+use Rattle.ports.proofs.Asking.{accepts}
+use Rattle.board.specs.Promises.{SharesAttach, SharesAdvertise, SharesRequest, SharesDetach, SharesRemaining}
+use Rattle.demands.proofs.History.{Known, figures, smaller, newFigure, maxOf, wantedOf, known, listFor, IsAttached, Event, Run}
+use Rattle.demands.proofs.Kept.{Kept, run-kept, same-together, same-left, same-present, same-held, same-cable}
+
+-- What is to hold of the rows ys after a run, where h is what is known from its calls and answers, start what was lent to set-up, and
+-- every next call is one that its contract allows.
+pub record AfterRun (capacity : ℕ) (start : List Row) (h : ℕ → Known) (ys : List Row) : Type 0 where
+  -- "the figures together never pass the capacity"
+  pub within-capacity : together (figures h) (length start) ≤ capacity
+  -- "the next list that attach or advertise returns is the rule list for M at the smaller of M and capacity less the other figures":
+  -- an empty port can be attached with a cable of 3 or 5 A, an attached one can be advertised again
+  pub attach-list : (port cable : ℕ) (r : Listing) (zs : List Row) → SharesAttach ys capacity port cable r zs
+      → 1 ≤ port → port ≤ length start → badCable cable ≡ false → eqb (h (port - 1) .cable) 0 ≡ true
+      → r ≡ record {
+        verdict = success;
+        list = listFor (maxOf start (port - 1)) (wantedOf start (port - 1)) cable (smaller capacity
+            (length start) (maxOf start) h port);
+      }
+  pub advertise-list : (port : ℕ) (r : Listing) (zs : List Row) → SharesAdvertise ys capacity port r zs → IsAttached (length start) h port
+      → r ≡ record {
+        verdict = success;
+        list = listFor (maxOf start (port - 1)) (wantedOf start (port - 1)) (h (port - 1) .cable)
+            (smaller capacity (length start) (maxOf start) h port);
+      }
+  -- "a request that the port's current list allows is refused with 36 exactly when its new figure exceeds capacity less the others,
+  -- and accepted otherwise"
+  pub refused-36 : (port word : ℕ) (r : Verdict) (zs : List Row) → SharesRequest ys capacity port word r zs → IsAttached (length start) h port
+      → answerOf (h (port - 1) .list) word ≡ success
+      → r ≡ verdict 36 port ↔ capacity - together (besides (port - 1) (figures h)) (length start) < newFigure h port word
+  pub accepted-else : (port word : ℕ) (r : Verdict) (zs : List Row) → SharesRequest ys capacity port word r zs → IsAttached (length start) h port
+      → answerOf (h (port - 1) .list) word ≡ success
+      → r ≡ success ↔ newFigure h port word ≤ capacity - together (besides (port - 1) (figures h)) (length start)
+  -- "one the list does not allow gets the list's own refusal"
+  pub own-refusal : (port word : ℕ) (r : Verdict) (zs : List Row) → SharesRequest ys capacity port word r zs → IsAttached (length start) h port
+      → (answerOf (h (port - 1) .list) word ≡ success → ⊥) → r ≡ answerOf (h (port - 1) .list) word
+  -- an attached port can be detached
+  pub detach-accepted : (port : ℕ) (r : Verdict) (zs : List Row) → SharesDetach ys capacity port r zs → IsAttached (length start) h port → r ≡ success
+  -- "remaining power is capacity less all the figures"
+  pub remaining-power : (r : RemainingPower) → SharesRemaining ys capacity r
+      → r ≡ record { verdict = success; power = halfWatts (capacity - together (figures h) (length start)) }
+
+-- ---- by what is known, no refusal before the port's own applies
+
+module _ (capacity : ℕ) (start : List Row) (h : ℕ → Known) (ys : List Row) (k : Kept capacity start h ys) where
+  port-passes : (port : ℕ) → 1 ≤ port → port ≤ length start → NoneApply (portRefusals capacity (lent ys) port)
+  port-passes port low high =
+      none-append (remainingRefusals capacity (lent ys)) (noSuchPort (lent ys) port) (k .clear)
+      (inside 1 (lent ys .count) port low (subst (λ (n : ℕ). port ≤ n) (sym (k .count-is)) high), tt)
+
+  at : (port : ℕ) → 1 ≤ port → port ≤ length start → port - 1 < lent ys .count
+  at port low high = let c = k .count-is in omega (arith, c, low, high)
+
+  use-passes : (port : ℕ) → IsAttached (length start) h port → NoneApply (useRefusals capacity (lent ys) port)
+  use-passes port a =
+      none-append (portRefusals capacity (lent ys) port) (notAttached (lent ys) port) (port-passes port (a .from-1) (a .to-count))
+      (ap (λ (b : Bool). not (not b)) (same-cable capacity start h ys k port (at port (a .from-1) (a .to-count)) ∙ a .cabled), tt)
+
+  -- the row that is offered has the rule list for M at that P
+  offered-list : (port cable : ℕ) → port - 1 < lent ys .count
+      → ruleList (offered capacity (lent ys) port cable) ≡ listFor (maxOf start (port - 1)) (wantedOf start (port - 1)) cable (smaller capacity
+      (length start) (maxOf start) h port)
+  unfolding offered ruleProfile rulePps
+  offered-list port cable l =
+      let now = k .each (port - 1) l in
+      ap (λ (m : ℕ). listFor m (portRow (lent ys) port .pps) cable (presentFor capacity (lent ys) port)) (now .max-is)
+      ∙ ap (λ (w : ℕ). listFor (maxOf start (port - 1)) w cable (presentFor capacity (lent ys) port)) (now .pps-is)
+      ∙ ap (listFor (maxOf start (port - 1)) (wantedOf start (port - 1)) cable) (same-present capacity start h ys k port l)
+
+  attach-next : (port cable : ℕ) (r : Listing) (zs : List Row) → SharesAttach ys capacity port cable r zs
+      → 1 ≤ port → port ≤ length start → badCable cable ≡ false → eqb (h (port - 1) .cable) 0 ≡ true
+      → r ≡ record {
+        verdict = success;
+        list = listFor (maxOf start (port - 1)) (wantedOf start (port - 1)) cable (smaller capacity
+            (length start) (maxOf start) h port);
+      }
+  unfolding attachAnswer
+  attach-next port cable r zs e low high good free =
+      let l = at port low high in
+      let x = none-append (portRefusals capacity (lent ys) port) (cannotAttach (lent ys) port cable) (port-passes port low high) (
+        good,
+        (
+          ap not
+              (same-cable capacity start h ys k port l ∙ free),
+          tt,
+        ),
+      ) in
+      e .0 ∙ all-missed writeRefused _ (attachRefusals capacity (lent ys) port cable) x
+      ∙ ap (λ (w : Words). record { verdict = success; list = w }) (offered-list port cable l)
+
+  advertise-next : (port : ℕ) (r : Listing) (zs : List Row) → SharesAdvertise ys capacity port r zs → IsAttached (length start) h port
+      → r ≡ record {
+        verdict = success;
+        list = listFor (maxOf start (port - 1)) (wantedOf start (port - 1)) (h (port - 1) .cable)
+            (smaller capacity (length start) (maxOf start) h port);
+      }
+  unfolding advertiseAnswer
+  advertise-next port r zs e a =
+      let l = at port (a .from-1) (a .to-count) in
+      e .0 ∙ all-missed writeRefused _ (useRefusals capacity (lent ys) port) (use-passes port a)
+      ∙ ap (λ (w : Words). record { verdict = success; list = w }) (offered-list port (portRow (lent ys) port .cable) l)
+      ∙ ap (λ (c : ℕ). record {
+        verdict = success;
+        list = listFor (maxOf start (port - 1)) (wantedOf start (port - 1)) c (smaller capacity
+            (length start) (maxOf start) h port);
+      }) (k .each (port - 1) l .cable-is)
+
+  -- ---- requests
+
+  module _ (port word : ℕ) (r : Verdict) (zs : List Row) (e : SharesRequest ys capacity port word r zs) (a : IsAttached (length start) h port) where
+    abbrev l : port - 1 < lent ys .count
+    l = at port (a .from-1) (a .to-count)
+
+    abbrev own : Words
+    own = h (port - 1) .list
+
+    list-known : own ≡ ruleList (portRow (lent ys) port)
+    list-known = k .each (port - 1) l .list-is (a .cabled)
+
+    -- past the port, the list's own answer decides, then the power that is left
+    past-port : r ≡ firstOf verdict (answerRefusals own word ++ noPowerNow capacity (lent ys) port word) success
+    unfolding requestAnswer
+    past-port =
+        e .0
+        ∙ onward verdict success (useRefusals capacity (lent ys) port) (ownRefusals (lent ys) port word ++ noPowerNow capacity (lent ys) port word)
+        ∙ all-missed verdict _ (useRefusals capacity (lent ys) port) (use-passes port a)
+        ∙ ap (λ (w : Words). firstOf verdict (answerRefusals w word ++ noPowerNow capacity (lent ys) port word) success) (sym list-known)
+
+    refused-own : (answerOf own word ≡ success → ⊥) → r ≡ answerOf own word
+    refused-own f =
+        past-port
+        ∙ onward verdict success (answerRefusals own word) (noPowerNow capacity (lent ys) port word)
+        ∙ refused-so verdict (answerRefusals own word) (λ z. f (accepts own word (ap (λ (v : Verdict). v .number) (answer-verdict own word) ∙ z))) _
+        ∙ sym (answer-verdict own word)
+
+    module _ (allowed : answerOf own word ≡ success) where
+      by-power : r ≡ verdictOf (noPowerNow capacity (lent ys) port word)
+      by-power =
+          past-port
+          ∙ onward verdict success (answerRefusals own word) (noPowerNow capacity (lent ys) port word)
+          ∙ all-missed verdict _ (answerRefusals own word) (clear (answerRefusals own word) (answerOf own word) (answer-verdict own word)
+          (answer-numbered own word) (ap (λ (v : Verdict). v .number) allowed))
+
+      abbrev left : ℕ
+      left = capacity - together (besides (port - 1) (figures h)) (length start)
+
+      -- the test of 36, in figures
+      test-is : ltb (leftFor capacity (lent ys) port) (newHeld (portRow (lent ys) port) word) ≡ ltb left (newFigure h port word)
+      test-is =
+          ap (λ (n : ℕ). ltb n (newHeld (portRow (lent ys) port) word)) (same-left capacity start h ys k port)
+          ∙ ap (ltb left) (same-held capacity start h ys k port l (a .cabled) word)
+
+      exceeds : left < newFigure h port word → r ≡ verdict 36 port
+      exceeds g = by-power ∙ hit verdict success 36 port [] (test-is ∙ lt-ltb left (newFigure h port word) g)
+
+      fits : newFigure h port word ≤ left → r ≡ success
+      fits g = by-power ∙ miss verdict success 36 port [] (test-is ∙ le-ltb left (newFigure h port word) g) ∙ all-missed verdict success [] tt
+
+      -- 36 and success are not the same
+      apart : r ≡ verdict 36 port → r ≡ success → ⊥
+      apart x y = let z : _≡_ {A = ℕ} 36 0 = ap (λ (v : Verdict). v .number) (sym x ∙ y) in absurd (omega (arith, z))
+
+      by-36 : r ≡ verdict 36 port ↔ left < newFigure h port word
+      by-36 = ((λ x. go (ltb left (newFigure h port word)) refl x), exceeds) where
+        go : (b : Bool) → ltb left (newFigure h port word) ≡ b → r ≡ verdict 36 port → left < newFigure h port word
+        go true q x = ltb-true left (newFigure h port word) q
+        go false q x = absurd (apart x (fits (ltb-false left (newFigure h port word) q)))
+
+      by-success : r ≡ success ↔ newFigure h port word ≤ left
+      by-success = ((λ x. go (ltb left (newFigure h port word)) refl x), fits) where
+        go : (b : Bool) → ltb left (newFigure h port word) ≡ b → r ≡ success → newFigure h port word ≤ left
+        go true q x = absurd (apart (exceeds (ltb-true left (newFigure h port word) q)) x)
+        go false q x = ltb-false left (newFigure h port word) q
+
+  -- ---- detach and remaining power
+
+  detached-so : (port : ℕ) (r : Verdict) (zs : List Row) → SharesDetach ys capacity port r zs → IsAttached (length start) h port → r ≡ success
+  unfolding detachAnswer
+  detached-so port r zs e a = e .0 ∙ all-missed verdict success (useRefusals capacity (lent ys) port) (use-passes port a)
+
+  remains : (r : RemainingPower) → SharesRemaining ys capacity r → r ≡ record {
+    verdict = success;
+    power = halfWatts (capacity - together
+        (figures h) (length start));
+  }
+  unfolding remainingAnswer powerLeft
+  remains r e =
+      e
+      ∙ all-missed noPowerLeft _ (remainingRefusals capacity (lent ys)) (k .clear)
+      ∙ ap (λ (n : ℕ). record { verdict = success; power = halfWatts (capacity - n) }) (same-together capacity start h ys k)
+
+  after : AfterRun capacity start h ys
+  after = record {
+    within-capacity = subst (λ (n : ℕ). n ≤ capacity) (same-together capacity start h ys k) (sum-fits capacity (lent ys) (k .clear));
+    attach-list = attach-next;
+    advertise-list = advertise-next;
+    refused-36 = by-36;
+    accepted-else = by-success;
+    own-refusal = refused-own;
+    detach-accepted = detached-so;
+    remaining-power = remains;
+  }
+
+-- Demand 3, for every run
+pub demand-3 : (capacity : ℕ) (start : List Row) (es : List Event) (ys : List Row) → Run capacity start es ys
+    → AfterRun capacity start (known capacity start es) ys
+demand-3 capacity start es ys run = after capacity start (known capacity start es) ys (run-kept capacity start es ys run)

@@ -1,0 +1,45 @@
+-- No second outcome (01, "What the contracts settle"), for the calls over flat objects and the calls under C names.
+-- Assumes nothing.
+use mathlib.Core.Path.{sym, _∙_}
+use Rattle.lists.specs.declared.Words.{Words}
+use Rattle.rules.specs.declared.Profile.{Profile}
+use Rattle.demands.proofs.OneOutcome.{Settled}
+use Rattle.demands.proofs.FlatContracts.{FlattenAnswers, RaiseAnswers, FlatReadAnswers, FlatWriteAnswers}
+use Rattle.demands.proofs.FlatContracts.{ArinDefaultAnswers, ArinBuildAnswers, ArinCheckAnswers, ArinShapeAnswers, ArinReadAnswers, ArinWriteAnswers, ArinAnswerAnswers}
+
+-- ---- flat
+
+pub flatten-settles : Settled FlattenAnswers
+flatten-settles o r s e f = e ∙ sym f
+
+pub raise-settles : Settled RaiseAnswers
+raise-settles x r s e f = e ∙ sym f
+
+pub flat-read-settles : Settled FlatReadAnswers
+flat-read-settles l r s e f = e ∙ sym f
+
+pub flat-write-settles : Settled FlatWriteAnswers
+flat-write-settles o r s e f = e ∙ sym f
+
+-- ---- board, lists and requests
+
+pub arin-default-settles : Settled ArinDefaultAnswers
+arin-default-settles m r s e f = e ∙ sym f
+
+pub arin-build-settles : Settled ArinBuildAnswers
+arin-build-settles p r s e f = e ∙ sym f
+
+pub arin-check-settles : (p : Profile) → Settled (ArinCheckAnswers p)
+arin-check-settles p l r s e f = e ∙ sym f
+
+pub arin-shape-settles : Settled ArinShapeAnswers
+arin-shape-settles l r s e f = e ∙ sym f
+
+pub arin-read-settles : Settled ArinReadAnswers
+arin-read-settles l r s e f = e ∙ sym f
+
+pub arin-write-settles : Settled ArinWriteAnswers
+arin-write-settles o r s e f = e ∙ sym f
+
+pub arin-answer-settles : (l : Words) → Settled (ArinAnswerAnswers l)
+arin-answer-settles l w r s e f = e ∙ sym f

@@ -1,0 +1,122 @@
+-- What numbers a shared request can get: its own (20 to 25, place 0) and those of sharing (30 to 37). No refusal of a list's shape comes
+-- out of it, for any rows, sound or not.
+-- Assumes nothing.
+use mathlib.Core.Path.{_≡_, refl, sym, ap, _∙_, subst}
+use mathlib.Core.Bool.{Bool, true, false, not, _&&_, _||_, and-eq-true-iff, or-true}
+use mathlib.Core.List.{List, [], _∷_, _++_}
+use mathlib.Core.Logic.{_⊎_, inl, inr, ⊎-elim}
+use Prim.Native.Nat.{ℕ, zero, suc, _≤_, _<_}
+use native.Mathlib.Omega.{arith}
+use lib.Dec.{leb, ltb, eqb}
+use borrow.Author.Tests.{eqb-true, eqb-false, leb-true, le-leb}
+use Rattle.verdicts.specs.declared.Verdict.{Verdict}
+use Rattle.verdicts.specs.Refusals.{Refusal, refusal, eachPlace, firstOf, verdict, success, verdictOf}
+use Rattle.verdicts.proofs.First.{NoneApply, none-applied, stops, goes-on, numbered}
+use Rattle.steps.specs.Ranges.{within}
+use Rattle.requests.specs.Answering.{answerRefusals, answerOf}
+use Rattle.requests.proofs.Answers.{answer-numbered, answer-verdict}
+use Rattle.ports.specs.declared.Row.{Row}
+use Rattle.ports.specs.declared.Ports.{Ports}
+use Rattle.ports.specs.Rows.{portRow, leftFor}
+use Rattle.ports.specs.RuleLists.{ruleList}
+use Rattle.ports.specs.Requests.{newHeld}
+use Rattle.ports.specs.Refusing.{tableRefusals, faultRows, sumFault, soundRefusals, remainingRefusals, noSuchPort, portRefusals, notAttached, useRefusals, ownRefusals, noPowerNow}
+use Rattle.ports.specs.Lending.{lent, requestAnswer}
+use Rattle.ports.proofs.RuleLists.{attached-offerable}
+use Rattle.ports.proofs.Passing.{use-numbered, attached}
+use Rattle.board.specs.Promises.{SharesRequest}
+use Rattle.demands.proofs.RuleLists.{OwnRefusal, refused-by-own}
+
+-- every number of a table passes a test
+abbrev allPass : (ℕ → Bool) → List Refusal → Bool
+allPass test [] = true
+allPass test (refusal b n p ∷ rs) = test n && allPass test rs
+
+module _ (test : ℕ → Bool) where
+  pass-append : (xs ys : List Refusal) → allPass test xs ≡ true → allPass test ys ≡ true → allPass test (xs ++ ys) ≡ true
+  pass-append [] ys s t = t
+  pass-append (refusal b n p ∷ xs) ys s t =
+      let h = and-eq-true-iff (test n) (allPass test xs) .0 s in
+      and-eq-true-iff (test n) (allPass test (xs ++ ys)) .1 (h .0, pass-append xs ys (h .1) t)
+
+  pass-places : (rows : ℕ → List Refusal) → ((k : ℕ) → allPass test (rows k) ≡ true) → (n : ℕ) → allPass test (eachPlace rows n) ≡ true
+  unfolding eachPlace
+  pass-places rows f zero = refl
+  pass-places rows f (suc n) = pass-append (eachPlace rows n) (rows n) (pass-places rows f n) (f n)
+
+  number-passes : (rs : List Refusal) → allPass test rs ≡ true → (verdictOf rs .number ≡ 0 → ⊥) → test (verdictOf rs .number) ≡ true
+  unfolding firstOf
+  number-passes [] t f = absurd (f refl)
+  number-passes (refusal true n p ∷ rs) t f = and-eq-true-iff (test n) (allPass test rs) .0 t .0
+  number-passes (refusal false n p ∷ rs) t f = number-passes rs (and-eq-true-iff (test n) (allPass test rs) .0 t .1) f
+
+-- the numbers of sharing
+abbrev pub ofSharing : ℕ → Bool
+ofSharing n = within 30 37 n
+
+use-shares : (capacity : ℕ) (t : Ports) (port : ℕ) → allPass ofSharing (useRefusals capacity t port) ≡ true
+use-shares capacity t port =
+    pass-append ofSharing (portRefusals capacity t port) (notAttached t port)
+    (pass-append ofSharing (remainingRefusals capacity t) (noSuchPort t port)
+    (pass-append ofSharing (tableRefusals capacity t) (soundRefusals capacity t) refl
+    (pass-append ofSharing (eachPlace (faultRows t) (t .count)) (sumFault capacity t) (pass-places ofSharing (faultRows t) (λ k. refl)
+    (t .count)) refl)) refl) refl
+
+-- success, the request's own refusal, or one of sharing
+pub data Outcome (r : Verdict) : Type 0 where
+  accepted : r ≡ success → Outcome r
+  own : OwnRefusal r → Outcome r
+  shared : ofSharing (r .number) ≡ true → Outcome r
+
+module _ (ys : List Row) (capacity port word : ℕ) where
+  abbrev t : Ports
+  t = lent ys
+
+  abbrev rest : List Refusal
+  rest = ownRefusals t port word ++ noPowerNow capacity t port word
+
+  of-verdict : (r s : Verdict) → r ≡ s → Outcome s → Outcome r
+  of-verdict r s e o = subst Outcome (sym e) o
+
+  -- past the port: the list's own answer, then 36
+  past-port : NoneApply (useRefusals capacity t port) → Outcome (verdictOf rest)
+  unfolding firstOf
+  past-port x = go (eqb (verdictOf (ownRefusals t port word) .number) 0) refl where
+    last : (b : Bool) → Outcome (verdictOf (refusal b 36 port ∷ []))
+    last true = shared refl
+    last false = accepted refl
+
+    go : (b : Bool) → eqb (verdictOf (ownRefusals t port word) .number) 0 ≡ b → Outcome (verdictOf rest)
+    go true e =
+        of-verdict _ _ (goes-on verdict (ownRefusals t port word) (noPowerNow capacity t port word) success (answer-numbered (ruleList
+        (portRow t port)) word) (eqb-true (verdictOf (ownRefusals t port word) .number) 0 e))
+        (last (ltb (leftFor capacity t port) (newHeld (portRow t port) word)))
+    go false e =
+        let f = eqb-false (verdictOf (ownRefusals t port word) .number) 0 e in
+        let v = answer-verdict (ruleList (portRow t port)) word in
+        of-verdict _ _ (stops verdict (ownRefusals t port word) (noPowerNow capacity t port word) success f)
+        (own (subst OwnRefusal v (refused-by-own (portRow t port) (attached-offerable (portRow t port) (attached capacity t port x)) word
+        (λ z. f (sym (ap (λ (u : Verdict). u .number) v) ∙ z)))))
+
+  pub request-outcome : (r : Verdict) (zs : List Row) → SharesRequest ys capacity port word r zs → Outcome r
+  unfolding requestAnswer
+  request-outcome r zs e = of-verdict r _ (e .0) (go (eqb (verdictOf (useRefusals capacity t port) .number) 0) refl) where
+    go : (b : Bool) → eqb (verdictOf (useRefusals capacity t port) .number) 0 ≡ b → Outcome (verdictOf (useRefusals capacity t port ++ rest))
+    go true q =
+        let z = eqb-true (verdictOf (useRefusals capacity t port) .number) 0 q in
+        of-verdict _ _ (goes-on verdict (useRefusals capacity t port) rest success (use-numbered capacity t port) z)
+        (past-port (none-applied (useRefusals capacity t port) (use-numbered capacity t port) z))
+    go false q =
+        let f = eqb-false (verdictOf (useRefusals capacity t port) .number) 0 q in
+        of-verdict _ _ (stops verdict (useRefusals capacity t port) rest success f)
+        (shared (number-passes ofSharing (useRefusals capacity t port) (use-shares capacity t port) f))
+
+  -- "so the shape refusals never come out of the request call": these are 10 to 17
+  pub never-of-shape : (r : Verdict) (zs : List Row) → SharesRequest ys capacity port word r zs → 10 ≤ r .number → r .number ≤ 17 → ⊥
+  never-of-shape r zs e low high = by (request-outcome r zs e) where
+    by : Outcome r → ⊥
+    by (accepted z) = let q = ap (λ (v : Verdict). v .number) z in absurd (omega (arith, q, low))
+    by (own o) = let q = o .from-20 in absurd (omega (arith, q, high))
+    by (shared s) =
+        let q = leb-true 30 (r .number) (and-eq-true-iff (leb 30 (r .number)) (leb (r .number) 37) .0 s .0) in
+        absurd (omega (arith, q, high))

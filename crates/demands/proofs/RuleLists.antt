@@ -1,0 +1,83 @@
+-- The rule list of a row that can be offered (01, "Ports that share"): it passes its check, and leaves a request no refusal but the
+-- request's own.
+-- Assumes nothing.
+use mathlib.Core.Path.{_≡_, refl, sym, ap, _∙_, subst}
+use mathlib.Core.Bool.{Bool, true, false, _&&_, and-eq-true-iff}
+use mathlib.Core.List.{List, [], _∷_, _++_}
+use Prim.Native.Nat.{ℕ, _≤_}
+use lib.Dec.{leb, eqb}
+use borrow.Author.Tests.{leb-true, eqb-true}
+use Rattle.verdicts.specs.declared.Verdict.{Verdict}
+use Rattle.verdicts.specs.Refusals.{Refusal, refusal, firstOf, verdict, success, verdictOf}
+use Rattle.verdicts.proofs.First.{NoneApply, onward, all-missed}
+use Rattle.lists.specs.declared.Words.{Words}
+use Rattle.lists.specs.Shape.{shapeRefusals, shapeOf}
+use Rattle.lists.proofs.Shapes.{count-low, count-high, shape-verdict}
+use Rattle.rules.specs.Building.{builtWords}
+use Rattle.rules.specs.Checking.{checkRefusals, checkedOf}
+use Rattle.rules.proofs.Checks.{check-verdict}
+use Rattle.requests.specs.Answering.{answerOf}
+use Rattle.ports.specs.declared.Row.{Row}
+use Rattle.ports.specs.RuleLists.{ruleProfile, ruleList}
+use Rattle.ports.proofs.RuleLists.{Offerable, rule-profile-passes, rule-list-is}
+use Rattle.demands.proofs.BuiltPasses.{shape-clear, check-clear}
+
+-- ---- requests that are refused by their own numbers
+
+-- "Requests check the shape of the list first, then 20, 21, 23, 22, 24, 25." These have the place 0.
+pub record OwnRefusal (v : Verdict) : Type 0 where
+  pub from-20 : 20 ≤ v .number
+  pub to-25 : v .number ≤ 25
+  pub place-0 : v .place ≡ 0
+
+abbrev own : ℕ → ℕ → Bool
+own n p = (leb 20 n && leb n 25) && eqb p 0
+
+abbrev allOwn : List Refusal → Bool
+allOwn [] = true
+allOwn (refusal b n p ∷ rs) = own n p && allOwn rs
+
+own-row : (n p : ℕ) → own n p ≡ true → OwnRefusal (verdict n p)
+own-row n p t =
+    let a = and-eq-true-iff (leb 20 n && leb n 25) (eqb p 0) .0 t in
+    let b = and-eq-true-iff (leb 20 n) (leb n 25) .0 (a .0) in
+    record { from-20 = leb-true 20 n (b .0); to-25 = leb-true n 25 (b .1); place-0 = eqb-true p 0 (a .1) }
+
+own-rows : (rs : List Refusal) → allOwn rs ≡ true → (verdictOf rs .number ≡ 0 → ⊥) → OwnRefusal (verdictOf rs)
+unfolding firstOf
+own-rows [] t f = absurd (f refl)
+own-rows (refusal true n p ∷ rs) t f = own-row n p (and-eq-true-iff (own n p) (allOwn rs) .0 t .0)
+own-rows (refusal false n p ∷ rs) t f = own-rows rs (and-eq-true-iff (own n p) (allOwn rs) .0 t .1) f
+
+own-after : (xs ys : List Refusal) → NoneApply xs → allOwn ys ≡ true → (verdictOf (xs ++ ys) .number ≡ 0 → ⊥) → OwnRefusal (verdictOf (xs ++ ys))
+own-after xs ys x t f =
+    let e : verdictOf (xs ++ ys) ≡ verdictOf ys = onward verdict success xs ys ∙ all-missed verdict (verdictOf ys) xs x in
+    subst OwnRefusal (sym e) (own-rows ys t (λ z. f (ap (λ (v : Verdict). v .number) e ∙ z)))
+
+-- ---- the rule list
+
+module _ (y : Row) (o : Offerable y) where
+  -- "The rule check passes a list exactly when its shape passes, ..": this one passes, for the profile it is built for
+  pub rule-list-passes : checkedOf (ruleProfile y) (ruleList y) ≡ success
+  rule-list-passes =
+      ap (checkedOf (ruleProfile y)) (rule-list-is y o)
+      ∙ check-verdict (ruleProfile y) (builtWords (ruleProfile y))
+      ∙ all-missed verdict success (checkRefusals (ruleProfile y) (builtWords (ruleProfile y))) (check-clear (ruleProfile y) (rule-profile-passes y o))
+
+  pub rule-list-clear : NoneApply (shapeRefusals (ruleList y))
+  rule-list-clear = subst (λ (l : Words). NoneApply (shapeRefusals l)) (sym (rule-list-is y o)) (shape-clear (ruleProfile y) (rule-profile-passes y o))
+
+  pub rule-list-shaped : shapeOf (ruleList y) ≡ success
+  rule-list-shaped = shape-verdict (ruleList y) ∙ all-missed verdict success (shapeRefusals (ruleList y)) rule-list-clear
+
+  -- "SPR source lists of 1 to 7 words"
+  pub rule-list-not-empty : 1 ≤ ruleList y .count
+  rule-list-not-empty = count-low (ruleList y .count) (rule-list-clear .0)
+
+  pub rule-list-to-7 : ruleList y .count ≤ 7
+  rule-list-to-7 = count-high (ruleList y .count) (rule-list-clear .0)
+
+  -- "34 or 35, the request's own, 36": a request on it is never refused for the list's shape, only by a number of its own
+  pub refused-by-own : (w : ℕ) → (answerOf (ruleList y) w .number ≡ 0 → ⊥) → OwnRefusal (answerOf (ruleList y) w)
+  unfolding answerOf
+  refused-by-own w f = own-after (shapeRefusals (ruleList y)) _ rule-list-clear refl f
