@@ -1,5 +1,5 @@
 // What the programs of cases share: one line a case on standard output, and what each kind of case compares.
-mod comparing;
+pub mod comparing;
 pub mod making;
 
 use comparing::same_object;
