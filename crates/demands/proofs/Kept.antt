@@ -24,7 +24,7 @@ use Rattle.ports.specs.Requests.{heldFor, newHeld}
 use Rattle.ports.specs.Refusing.{tableRefusals, freshRows, setUpRefusals, remainingRefusals, portRefusals, cannotAttach, attachRefusals, useRefusals, ownRefusals, noPowerNow, requestRefusals}
 use Rattle.ports.specs.Lending.{lent, unlessRefused, setUpAnswer, setUpRows, attachAnswer, attachRows, advertiseAnswer, advertiseRows, requestAnswer, requestRows, detachAnswer, detachRows}
 use Rattle.ports.proofs.Sound.{sound-empty}
-use Rattle.ports.proofs.Sums.{same-figures, besides-own, besides-other}
+use Rattle.ports.proofs.Sums.{same-figures, others-agree}
 use Rattle.ports.proofs.Passing.{count-high, table-passes, port-at, eight-rows, row-sound, rows-pass, use-port, in-use, set-up-numbered, attach-numbered, use-numbered, request-numbered}
 use Rattle.board.specs.Promises.{SharesSetUp, SharesAttach, SharesAdvertise, SharesRequest, SharesDetach}
 use Rattle.demands.proofs.LentRows.{lent-count, lent-row, written-count, emptied-count, emptied-row}
@@ -133,18 +133,8 @@ module _ (capacity : ℕ) (start : List Row) (h : ℕ → Known) (ys : List Row)
 
   pub same-besides : (i : ℕ) → together (besides i (heldAt (lent ys))) (lent ys .count) ≡ together (besides i (figures h)) (length start)
   same-besides i =
-      same-figures (besides i (heldAt (lent ys))) (besides i (figures h)) (lent ys .count) each-same
+      others-agree i (heldAt (lent ys)) (figures h) (lent ys .count) (λ j l f. k .each j l .held-is)
       ∙ ap (together (besides i (figures h))) (k .count-is)
-    where
-      each-same : (j : ℕ) → j < lent ys .count → besides i (heldAt (lent ys)) j ≡ besides i (figures h) j
-      each-same j l = go (eqb j i) refl where
-        go : (b : Bool) → eqb j i ≡ b → besides i (heldAt (lent ys)) j ≡ besides i (figures h) j
-        go true e =
-            let q = eqb-true j i e in
-            ap (besides i (heldAt (lent ys))) q ∙ besides-own i (heldAt (lent ys)) ∙ sym (ap (besides i (figures h)) q ∙ besides-own i (figures h))
-        go false e =
-            let f = eqb-false j i e in
-            besides-other i (heldAt (lent ys)) j f ∙ k .each j l .held-is ∙ sym (besides-other i (figures h) j f)
 
   pub same-together : allHeld (lent ys) ≡ together (figures h) (length start)
   same-together =

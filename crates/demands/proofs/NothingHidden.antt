@@ -25,7 +25,7 @@ use Rattle.ports.specs.RuleLists.{ruleList}
 use Rattle.ports.specs.Requests.{newHeld}
 use Rattle.ports.specs.Refusing.{tableRefusals, freshRow, freshRows, setUpRefusals, faultRows, sumFault, soundRefusals, remainingRefusals, noSuchPort, portRefusals, cannotAttach, attachRefusals, notAttached, useRefusals, ownRefusals, noPowerNow, requestRefusals}
 use Rattle.ports.specs.Deciding.{setUpVerdict, noOffer, noChange, offering, changing, attachOffer, advertiseOffer, requestChange, detachChange, noPowerLeft, powerLeft}
-use Rattle.ports.proofs.Sums.{same-figures, besides-own, besides-other}
+use Rattle.ports.proofs.Sums.{same-figures, others-agree}
 use Rattle.ports.proofs.Passing.{port-numbered, port-at}
 use Rattle.ports.proofs.Judged.{clear}
 
@@ -75,18 +75,10 @@ module _ (capacity : ℕ) (t u : Ports) (s : SameRows t u) where
     row-same-at = s .row-same (port - 1) (port-at capacity t port x)
 
     left-same : leftFor capacity t port ≡ leftFor capacity u port
-    left-same = ap (λ (n : ℕ). capacity - n) (same-figures (besides (port - 1) (heldAt t)) (besides (port - 1) (heldAt u)) (t .count) each
-        ∙ ap (together (besides (port - 1) (heldAt u))) (s .count-same)) where
-          each : (k : ℕ) → k < t .count → besides (port - 1) (heldAt t) k ≡ besides (port - 1) (heldAt u) k
-          each k h = go (eqb k (port - 1)) refl where
-            go : (b : Bool) → eqb k (port - 1) ≡ b → besides (port - 1) (heldAt t) k ≡ besides (port - 1) (heldAt u) k
-            go true e =
-                let q = eqb-true k (port - 1) e in
-                ap (besides (port - 1) (heldAt t)) q ∙ besides-own (port - 1) (heldAt t) ∙ sym (ap (besides (port - 1) (heldAt u)) q
-                ∙ besides-own (port - 1) (heldAt u))
-            go false e =
-                let f = eqb-false k (port - 1) e in
-                besides-other (port - 1) (heldAt t) k f ∙ ap (λ (y : Row). y .held .0) (s .row-same k h) ∙ sym (besides-other (port - 1) (heldAt u) k f)
+    left-same =
+        ap (λ (n : ℕ). capacity - n)
+        (others-agree (port - 1) (heldAt t) (heldAt u) (t .count) (λ k h f. ap (λ (y : Row). y .held .0) (s .row-same k h))
+        ∙ ap (together (besides (port - 1) (heldAt u))) (s .count-same))
 
     offered-same : (cable : ℕ) → offered capacity t port cable ≡ offered capacity u port cable
     unfolding offered presentFor

@@ -28,7 +28,7 @@ use Rattle.ports.specs.Refusing.{tableRefusals, freshRows, setUpRefusals, fault
 use Rattle.ports.specs.Lending.{lent, unlessRefused, setUpRows, attachRows, advertiseRows, requestRows, detachRows}
 use Rattle.ports.proofs.Sound.{SoundAttached, SoundEmpty, SoundLimits, limits-of, sound-empty, sound-attached, attached-sound, empty-sound, either-cable}
 use Rattle.ports.proofs.RuleLists.{attached-from-15, attached-offerable}
-use Rattle.ports.proofs.Sums.{same-figures, one-apart, besides-own, besides-other}
+use Rattle.ports.proofs.Sums.{others-agree, one-apart}
 use Rattle.ports.proofs.Passing.{count-high, capacity-low, table-passes, sound-at, sum-fits, rows-pass, port-low, port-at, eight-rows, own-fits, row-sound, use-port, attached, cable-kept}
 use Rattle.ports.proofs.Offering.{held-from-15, left-from-15, offered-to-max}
 use Rattle.board.specs.Promises.{SharesSetUp, SharesAttach, SharesAdvertise, SharesRequest, SharesDetach}
@@ -84,18 +84,8 @@ module _ (capacity : ℕ) (ys : List Row) (i : ℕ) (y : Row) (eight : lent ys .
   -- what the others hold is as it was
   pub others-same : together (besides i (heldAt u)) (u .count) ≡ together (besides i (heldAt t)) (t .count)
   others-same =
-      same-figures (besides i (heldAt u)) (besides i (heldAt t)) (u .count) each-same
+      others-agree i (heldAt u) (heldAt t) (u .count) (λ k h f. ap (λ (z : Row). z .held .0) (old-row k h f))
       ∙ ap (together (besides i (heldAt t))) (written-count ys i y)
-    where
-      each-same : (k : ℕ) → k < u .count → besides i (heldAt u) k ≡ besides i (heldAt t) k
-      each-same k h = go (eqb k i) refl where
-        go : (b : Bool) → eqb k i ≡ b → besides i (heldAt u) k ≡ besides i (heldAt t) k
-        go true e =
-            let q = eqb-true k i e in
-            ap (besides i (heldAt u)) q ∙ besides-own i (heldAt u) ∙ sym (ap (besides i (heldAt t)) q ∙ besides-own i (heldAt t))
-        go false e =
-            let f = eqb-false k i e in
-            besides-other i (heldAt u) k f ∙ ap (λ (z : Row). z .held .0) (old-row k h f) ∙ sym (besides-other i (heldAt t) k f)
 
   pub all-is : allHeld u ≡ together (besides i (heldAt t)) (t .count) + y .held .0
   all-is =

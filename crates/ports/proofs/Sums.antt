@@ -8,7 +8,7 @@ use native.Mathlib.Nat.{eq-or-lt-of-le, le-of-suc-le-suc, lt-suc-self}
 use native.Mathlib.Numerals.{add-one}
 use native.Mathlib.Omega.{arith}
 use lib.Dec.{eqb}
-use borrow.Author.Tests.{eq-eqb, ne-eqb}
+use borrow.Author.Tests.{eq-eqb, ne-eqb, eqb-true, eqb-false}
 use Rattle.ports.specs.Rows.{together, besides}
 
 pub none-together : (f : ℕ → ℕ) → together f 0 ≡ 0
@@ -39,6 +39,20 @@ besides-own own f = rw (eq-eqb own own refl) refl
 pub besides-other : (own : ℕ) (f : ℕ → ℕ) (k : ℕ) → (k ≡ own → ⊥) → besides own f k ≡ f k
 unfolding besides
 besides-other own f k h = rw (ne-eqb k own h) refl
+
+-- figures that agree at every other place agree with the own apart
+pub others-agree : (own : ℕ) (f g : ℕ → ℕ) (n : ℕ) → ((k : ℕ) → k < n → (k ≡ own → ⊥) → f k ≡ g k)
+    → together (besides own f) n ≡ together (besides own g) n
+others-agree own f g n same = same-figures (besides own f) (besides own g) n each where
+  each : (k : ℕ) → k < n → besides own f k ≡ besides own g k
+  each k h = go (eqb k own) refl where
+    go : (b : Bool) → eqb k own ≡ b → besides own f k ≡ besides own g k
+    go true e =
+        let q = eqb-true k own e in
+        ap (besides own f) q ∙ besides-own own f ∙ sym (ap (besides own g) q ∙ besides-own own g)
+    go false e =
+        let q = eqb-false k own e in
+        besides-other own f k q ∙ same k h q ∙ sym (besides-other own g k q)
 
 -- past the own place nothing is left out
 all-others : (own : ℕ) (f : ℕ → ℕ) (n : ℕ) → n ≤ own → together (besides own f) n ≡ together f n
