@@ -2,7 +2,7 @@
 -- limits. For every list whose shape passes and every AVS object in it, a request at exactly 15.0 V is accepted exactly when its
 -- current is at most the larger of the two advertised currents, and with the second current zero at most the first.
 -- Assumes nothing.
-use mathlib.Core.Path.{_≡_, sym, ap, _∙_, subst}
+use mathlib.Core.Path.{_≡_, sym, subst}
 use mathlib.Core.Logic.{_↔_}
 use Prim.Native.Nat.{ℕ, _%_, _≤_, _<_, max}
 use Rattle.verdicts.specs.declared.Verdict.{Verdict}
@@ -11,7 +11,6 @@ use Rattle.steps.specs.Units.{mv25, ma10, ma50}
 use Rattle.steps.specs.declared.Ma10.{Ma10}
 use Rattle.lists.specs.declared.Words.{Words}
 use Rattle.requests.specs.Taking.{avsVolts, currentIn}
-use Rattle.requests.specs.Answering.{answerOf}
 use Rattle.requests.proofs.At15V.{AsksAvs, AllowsUpTo, figure-600, at-15-V, at-15-V-alone, below-15-V, above-15-V}
 use Rattle.demands.proofs.Contracts.{AnswerAnswers}
 

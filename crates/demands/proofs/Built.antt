@@ -1,21 +1,18 @@
 -- The objects that are built for a profile that passes: their currents, their words, and what the shape asks of each by itself.
 -- Assumes nothing.
-use mathlib.Core.Path.{_≡_, refl, sym, ap, ap₂, _∙_, subst}
-use mathlib.Core.Bool.{Bool, true, false, not, cond, _&&_, _||_, and-eq-true-iff}
-use mathlib.Core.List.{List, [], _∷_, _++_}
+use mathlib.Core.Path.{_≡_, refl, ap}
+use mathlib.Core.Bool.{Bool, true, false, not, cond, _||_, and-eq-true-iff}
 use mathlib.Core.Logic.{_⊎_, inl, inr, ⊎-elim}
-use Prim.Native.Nat.{ℕ, zero, suc, _+_, _-_, _*_, _^_, _≤_, _<_, min}
+use Prim.Native.Nat.{ℕ, zero, suc, _*_, _≤_, _<_}
 use native.Mathlib.Nat.{min-le-right, le-min, mul-le-mul}
 use native.Mathlib.Omega.{arith}
-use lib.Dec.{leb, ltb, eqb}
-use borrow.Author.Tests.{leb-true, lt-ltb, le-leb, eqb-true, eqb-false, not-false}
+use lib.Dec.{leb, eqb}
+use borrow.Author.Tests.{leb-true, lt-ltb, le-leb, eqb-true, not-false}
 use Rattle.verdicts.proofs.First.{NoneApply}
 use Rattle.steps.proofs.RoundingLaws.{down-greatest, down-le-up}
-use Rattle.objects.specs.declared.Object.{Object}
-use Rattle.objects.specs.declared.Object.the-variants as object
 use Rattle.objects.specs.declared.Encoded.the-variants.{Word}
 use Rattle.objects.specs.Layout.{allFit}
-use Rattle.objects.specs.Encode.{fieldsOf, ifFit, wordOf, encodeOf}
+use Rattle.objects.specs.Encode.{fieldsOf, wordOf, encodeOf}
 use Rattle.objects.proofs.Made.{flagless}
 use Rattle.lists.specs.ObjectRules.{outOfBounds, over100W}
 use Rattle.lists.specs.Writing.{wordIn}
@@ -25,7 +22,7 @@ use Rattle.rules.specs.declared.Slot.the-variants.{Nothing, Fixed, Avs, Prog}
 use Rattle.rules.specs.Profiles.{profileRefusals}
 use Rattle.rules.specs.Currents.{limitAt, builtCurrent, progLimit, progCurrent, roundedAs, downAt, upAt, progDown}
 use Rattle.rules.specs.Building.{flagsAt, objectFor}
-use Rattle.rules.proofs.ProfileCases.{flags-high, present-low, rounding-high}
+use Rattle.rules.proofs.ProfileCases.{flags-high, present-low}
 use Rattle.demands.proofs.Slots.{slotGood}
 
 either-true : (a b : Bool) → (a || b) ≡ true → (a ≡ true) ⊎ (b ≡ true)

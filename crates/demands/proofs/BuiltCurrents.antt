@@ -1,9 +1,9 @@
 -- Every current that is built is allowed.
 -- Assumes nothing.
-use mathlib.Core.Path.{_≡_, refl, sym, ap, ap₂, _∙_, subst}
-use mathlib.Core.Bool.{Bool, true, false, not, cond, _&&_, _||_, or-true, and-eq-true-iff}
-use Prim.Native.Nat.{ℕ, zero, suc, _+_, _*_, _≤_, _<_, min}
-use native.Mathlib.Nat.{min-le-right, le-min, min-eq-left, min-eq-right, mul-le-mul-right}
+use mathlib.Core.Path.{_≡_, refl, sym, ap, _∙_, subst}
+use mathlib.Core.Bool.{Bool, true, false, cond, _||_, or-true, and-eq-true-iff}
+use Prim.Native.Nat.{ℕ, zero, suc, _*_, _≤_, _<_, min}
+use native.Mathlib.Nat.{le-min, min-eq-left, min-eq-right}
 use native.Mathlib.Omega.{arith}
 use lib.Dec.{leb, ltb, eqb}
 use borrow.Author.Tests.{leb-true, ltb-true, ltb-false, le-leb, eq-eqb, ne-eqb, eqb-true, eqb-false}
@@ -13,12 +13,12 @@ use Rattle.rules.specs.declared.Profile.{Profile}
 use Rattle.rules.specs.declared.Slot.{Slot}
 use Rattle.rules.specs.declared.Slot.the-variants.{Nothing, Fixed, Avs, Prog}
 use Rattle.rules.specs.Profiles.{profileRefusals}
-use Rattle.rules.specs.Currents.{limitAt, builtCurrent, fixedAllowed, progCurrent, progAllowed, roundedAs, downAt, upAt, cable10mA}
+use Rattle.rules.specs.Currents.{limitAt, builtCurrent, fixedAllowed, progCurrent, roundedAs, downAt, upAt, cable10mA}
 use Rattle.rules.specs.Building.{objectFor}
 use Rattle.rules.specs.Checking.{currentAllowed}
 use Rattle.rules.proofs.Allowed.{at-20-V, above-3-A, up-to-3-A, built-figure}
 use Rattle.demands.proofs.Slots.{slotGood}
-use Rattle.demands.proofs.Built.{limit-low, cable-low}
+use Rattle.demands.proofs.Built.{cable-low}
 
 module _ (p : Profile) (x : NoneApply (profileRefusals p)) (volts : ℕ) (pos : 1 ≤ volts) where
   abbrev rounded : ℕ

@@ -1,21 +1,20 @@
 -- Every list that is built for a profile passes the rule check for that profile.
 -- Assumes nothing.
 use mathlib.Core.Path.{_≡_, refl, sym, ap, ap₂, _∙_, subst}
-use mathlib.Core.Bool.{Bool, true, false, not, cond, _&&_, _||_, or-true, and-eq-true-iff}
+use mathlib.Core.Bool.{Bool, true, false, not, cond, _&&_, _||_, or-true}
 use mathlib.Core.List.{List, [], _∷_, _++_}
-use Prim.Native.Nat.{ℕ, zero, suc, _+_, _-_, _*_, _^_, _≤_, _<_}
+use Prim.Native.Nat.{ℕ, zero, suc, _-_, _*_, _^_, _≤_, _<_}
 use native.Mathlib.Nat.{mul-assoc}
 use native.Mathlib.Numerals.{add-one}
 use native.Mathlib.Omega.{arith}
-use lib.Dec.{leb, ltb, eqb, eqb·suc-zero}
+use lib.Dec.{ltb, eqb, eqb·suc-zero}
 use lib.ListN.{length, getD}
-use borrow.Author.Tests.{le-ltb, eq-eqb, ne-eqb, ltb-true, ltb-false}
-use Rattle.verdicts.specs.Refusals.{Refusal, refusal, eachPlace}
+use borrow.Author.Tests.{eq-eqb, ne-eqb, ltb-true, ltb-false}
+use Rattle.verdicts.specs.Refusals.{refusal, eachPlace}
 use Rattle.verdicts.proofs.First.{NoneApply, none-append, none-left, none-right, none-all}
 use Rattle.objects.specs.declared.Object.{Object}
-use Rattle.objects.specs.declared.Object.the-variants as object
 use Rattle.objects.specs.declared.Decoded.{Decoded}
-use Rattle.objects.specs.declared.Decoded.the-variants.{Known, NotAllowed}
+use Rattle.objects.specs.declared.Decoded.the-variants.{Known}
 use Rattle.objects.specs.declared.Encoded.the-variants.{Word}
 use Rattle.objects.specs.Asking.{ofObject, ofFixed}
 use Rattle.objects.specs.Decode.{decodeOf, decodedNumber, reservedSet}
@@ -23,11 +22,8 @@ use Rattle.objects.specs.Encode.{encodeOf}
 use Rattle.objects.proofs.RoundTrip.{encode-decode}
 use Rattle.objects.proofs.Made.{made-clear, made-lt}
 use Rattle.steps.specs.Units.{mv50}
-use Rattle.steps.specs.declared.Ma10.{Ma10}
-use Rattle.lists.specs.declared.Words.{Words}
 use Rattle.lists.specs.ObjectRules.{outOfBounds, over100W}
-use Rattle.lists.specs.Shape.{badCount, isFixed5V, outOfOrder, wordRows, fixedWith, hasFixed, avsMatches, avsDiffers, avsRows, shapeRefusals}
-use Rattle.lists.specs.Writing.{wordIn}
+use Rattle.lists.specs.Shape.{isFixed5V, outOfOrder, wordRows, fixedWith, hasFixed, avsDiffers, avsRows, shapeRefusals}
 use Rattle.lists.proofs.Finding.{found-at}
 use Rattle.lists.proofs.Shapes.{counted}
 use Rattle.lists.proofs.Sevens.{filled-at, past-filled}
@@ -36,15 +32,15 @@ use Rattle.rules.specs.declared.Profile.{Profile}
 use Rattle.rules.specs.declared.Slot.{Slot}
 use Rattle.rules.specs.declared.Slot.the-variants.{Nothing, Fixed, Avs, Prog}
 use Rattle.rules.specs.Profiles.{ppsBelowMaximum, profileRefusals, buildRefusals}
-use Rattle.rules.specs.Plans.{baseSlots, progSlots, slots}
+use Rattle.rules.specs.Plans.{baseSlots, slots}
 use Rattle.rules.specs.Currents.{builtCurrent}
 use Rattle.rules.specs.Building.{objectFor, wordFor, builtCount, builtWords}
-use Rattle.rules.specs.Checking.{same, fits, allFit, rightCount, wrongSet, currentAllowed, currentRows, checkRefusals}
+use Rattle.rules.specs.Checking.{fits, allFit, rightCount, wrongSet, currentAllowed, currentRows, checkRefusals}
 use Rattle.rules.proofs.PlanFacts.{base-within}
-use Rattle.rules.proofs.ProfileCases.{max-high, max-low, present-high, pps-high}
+use Rattle.rules.proofs.ProfileCases.{max-high, max-low, present-high}
 use Rattle.rules.proofs.Builds.{built-count-high}
 use Rattle.rules.proofs.Checks.{none-looked, fit-more, right-set}
-use Rattle.demands.proofs.Slots.{slotGood, good-at, base-not-empty, first-is-5-V, Served15, Served20, has-15-V, has-20-V, follows, follow-is, follows-at}
+use Rattle.demands.proofs.Slots.{slotGood, good-at, base-not-empty, first-is-5-V, has-15-V, has-20-V, follow-is, follows-at}
 use Rattle.demands.proofs.Built.{some-at-20-V, has-word, no-flags-later, in-bounds, in-power}
 use Rattle.demands.proofs.BuiltCurrents.{allowed-at}
 

@@ -2,15 +2,15 @@
 -- Assumes nothing.
 use mathlib.Core.Path.{_≡_, refl, sym, ap, _∙_, subst}
 use mathlib.Core.Bool.{Bool, true, false, not}
-use mathlib.Core.List.{List, [], _∷_, _++_}
+use mathlib.Core.List.{List, [], _++_}
 use mathlib.Core.Logic.{_↔_}
-use Prim.Native.Nat.{ℕ, _-_, _≤_, _<_, min}
+use Prim.Native.Nat.{ℕ, _-_, _≤_, _<_}
 use native.Mathlib.Omega.{arith}
 use lib.Dec.{ltb, eqb}
 use lib.ListN.{length}
 use borrow.Author.Tests.{lt-ltb, le-ltb, ltb-true, ltb-false}
 use Rattle.verdicts.specs.declared.Verdict.{Verdict}
-use Rattle.verdicts.specs.Refusals.{Refusal, refusal, firstOf, verdict, success, verdictOf}
+use Rattle.verdicts.specs.Refusals.{firstOf, verdict, success, verdictOf}
 use Rattle.verdicts.proofs.First.{NoneApply, none-append, all-missed, onward, hit, miss, refused-so}
 use Rattle.steps.proofs.RangeLaws.{inside}
 use Rattle.lists.specs.declared.Words.{Words}
@@ -21,10 +21,10 @@ use Rattle.requests.specs.Answering.{answerRefusals, answerOf}
 use Rattle.requests.proofs.Answers.{answer-numbered, answer-verdict}
 use Rattle.ports.specs.declared.Row.{Row}
 use Rattle.ports.specs.declared.RemainingPower.{RemainingPower}
-use Rattle.ports.specs.Rows.{halfWatts, portRow, allHeld, leftFor, together, besides, presentFor, offered}
+use Rattle.ports.specs.Rows.{halfWatts, portRow, leftFor, together, besides, presentFor, offered}
 use Rattle.ports.specs.RuleLists.{rulePps, ruleProfile, ruleList}
 use Rattle.ports.specs.Requests.{newHeld}
-use Rattle.ports.specs.Refusing.{remainingRefusals, noSuchPort, portRefusals, cannotAttach, attachRefusals, notAttached, useRefusals, ownRefusals, noPowerNow, requestRefusals}
+use Rattle.ports.specs.Refusing.{remainingRefusals, noSuchPort, portRefusals, cannotAttach, attachRefusals, notAttached, useRefusals, ownRefusals, noPowerNow}
 use Rattle.ports.specs.Deciding.{powerLeft, noPowerLeft}
 use Rattle.ports.specs.Lending.{lent, attachAnswer, advertiseAnswer, requestAnswer, detachAnswer, remainingAnswer}
 use Rattle.ports.proofs.Passing.{sum-fits}

@@ -2,7 +2,7 @@
 -- Nothing here reads a row after set-up: M and PPS wanted are what the caller lent to set-up, all else is in calls and answers.
 -- Assumes nothing.
 use mathlib.Core.Path.{_≡_}
-use mathlib.Core.Bool.{Bool, false, cond}
+use mathlib.Core.Bool.{false, cond}
 use mathlib.Core.List.{List, [], _∷_}
 use Prim.Native.Nat.{ℕ, _-_, _≤_, min}
 use lib.Dec.{eqb}

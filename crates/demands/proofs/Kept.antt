@@ -4,13 +4,13 @@ use mathlib.Core.Path.{_≡_, refl, sym, ap, ap₂, _∙_, subst}
 use mathlib.Core.Bool.{Bool, true, false, not, cond}
 use mathlib.Core.List.{List, [], _∷_, _++_, map}
 use mathlib.Core.Logic.{_⊎_, inl, inr, ⊎-elim}
-use Prim.Native.Nat.{ℕ, _+_, _-_, _*_, _≤_, _<_, min}
+use Prim.Native.Nat.{ℕ, _-_, _*_, _<_, min}
 use native.Mathlib.Omega.{arith}
-use lib.Dec.{ltb, eqb}
+use lib.Dec.{eqb}
 use lib.ListN.{length, getD, set}
 use borrow.Author.Tests.{eqb-true, eqb-false, eq-eqb, ne-eqb, not-false}
 use Rattle.verdicts.specs.declared.Verdict.{Verdict}
-use Rattle.verdicts.specs.Refusals.{Refusal, refusal, eachPlace, firstOf, verdict, success, verdictOf}
+use Rattle.verdicts.specs.Refusals.{Refusal, refusal, eachPlace, verdict, success, verdictOf}
 use Rattle.verdicts.proofs.First.{NoneApply, none-left, none-right, none-applied, all-missed, refused-so, numbered}
 use Rattle.steps.specs.Ranges.{within}
 use Rattle.lists.specs.declared.Words.{Words}
@@ -18,15 +18,15 @@ use Rattle.lists.specs.declared.Listing.{Listing}
 use Rattle.lists.specs.Writing.{writeRefused}
 use Rattle.ports.specs.declared.Row.{Row}
 use Rattle.ports.specs.declared.Ports.{Ports}
-use Rattle.ports.specs.Rows.{halfWatts, noRow, rowOf, portRow, heldAt, allHeld, othersHeld, leftFor, together, besides, emptied, presentFor, offered, holding}
+use Rattle.ports.specs.Rows.{noRow, rowOf, portRow, heldAt, allHeld, leftFor, together, besides, emptied, presentFor, offered, holding}
 use Rattle.ports.specs.RuleLists.{rulePps, ruleProfile, ruleList}
 use Rattle.ports.specs.Requests.{heldFor, newHeld}
 use Rattle.ports.specs.Refusing.{tableRefusals, freshRows, setUpRefusals, remainingRefusals, portRefusals, cannotAttach, attachRefusals, useRefusals, ownRefusals, noPowerNow, requestRefusals}
-use Rattle.ports.specs.Lending.{lent, unlessRefused, setUpAnswer, setUpRows, attachAnswer, attachRows, advertiseAnswer, advertiseRows, requestAnswer, requestRows, detachAnswer, detachRows}
+use Rattle.ports.specs.Lending.{lent, setUpAnswer, setUpRows, attachAnswer, attachRows, advertiseAnswer, advertiseRows, requestAnswer, requestRows, detachAnswer, detachRows}
 use Rattle.ports.proofs.Sound.{sound-empty}
 use Rattle.ports.proofs.Sums.{same-figures, others-agree}
-use Rattle.ports.proofs.Passing.{count-high, table-passes, port-at, eight-rows, row-sound, rows-pass, use-port, in-use, set-up-numbered, attach-numbered, use-numbered, request-numbered}
-use Rattle.board.specs.Promises.{SharesSetUp, SharesAttach, SharesAdvertise, SharesRequest, SharesDetach}
+use Rattle.ports.proofs.Passing.{count-high, table-passes, port-at, row-sound, use-port, in-use, set-up-numbered, attach-numbered, use-numbered, request-numbered}
+use Rattle.board.specs.Promises.{SharesAttach, SharesAdvertise, SharesRequest, SharesDetach}
 use Rattle.demands.proofs.LentRows.{lent-count, lent-row, written-count, emptied-count, emptied-row}
 use Rattle.demands.proofs.SoundRows.{SoundRows, of-clear, to-clear, by-place, attach-keeps, advertise-keeps, request-keeps, detach-keeps, set-up-sounds}
 use Rattle.demands.proofs.History.{Known, empty, figures, smaller, changed, ifAccepted, newFigure, learnt, maxOf, wantedOf, known, Event, attached, advertised, requested, detached, remained, Step, SetUp, Run}

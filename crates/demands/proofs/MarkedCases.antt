@@ -15,7 +15,6 @@ use Rattle.lists.specs.declared.Listing.{Listing}
 use Rattle.lists.specs.ObjectRules.{outOfBounds, over100W, mayFollow}
 use Rattle.lists.specs.Shape.{isFixed5V, hasFixed, avsDiffers}
 use Rattle.lists.specs.Seven.{sevenTo}
-use Rattle.rules.specs.declared.Profile.{Profile}
 use Rattle.rules.specs.Profiles.{halfWatts, defaultOf}
 use Rattle.rules.specs.Plans.{baseSlots, progSlots}
 use Rattle.rules.specs.Currents.{builtCurrent, progCurrent}

@@ -1,33 +1,28 @@
 -- Nothing hidden: two tables that are equal up to the rows lent give equal answers and write equal rows. What stands past the count is
 -- not looked at.
 -- Assumes nothing.
-use mathlib.Core.Path.{_≡_, refl, sym, ap, ap₂, _∙_, subst}
+use mathlib.Core.Path.{_≡_, refl, sym, ap, ap₂, _∙_}
 use mathlib.Core.Bool.{Bool, true, false, not}
 use mathlib.Core.List.{List, [], _∷_, _++_}
-use mathlib.Core.Logic.{⊎-elim}
-use Prim.Native.Nat.{ℕ, _+_, _-_, _*_, _≤_, _<_, min}
+use Prim.Native.Nat.{ℕ, _+_, _-_, _*_, _<_, min}
 use lib.Dec.{ltb, eqb}
 use borrow.Author.Tests.{eqb-true, eqb-false}
-use Rattle.verdicts.specs.declared.Verdict.{Verdict}
 use Rattle.verdicts.specs.Refusals.{Refusal, refusal, eachPlace, firstOf, verdict, success, verdictOf}
 use Rattle.verdicts.proofs.First.{NoneApply, none-applied, same-places, stops}
 use Rattle.steps.specs.Ranges.{within}
 use Rattle.lists.specs.Writing.{writeRefused}
 use Rattle.ports.specs.declared.Row.{Row}
 use Rattle.ports.specs.declared.Ports.{Ports}
-use Rattle.ports.specs.declared.Offer.{Offer}
-use Rattle.ports.specs.declared.Change.{Change}
-use Rattle.ports.specs.Rows.{halfWatts, noRow, rowOf, portRow, heldAt, allHeld, othersHeld, leftFor, together, besides, presentFor, offered, holding, emptied}
+use Rattle.ports.specs.Rows.{halfWatts, noRow, rowOf, portRow, heldAt, allHeld, leftFor, together, besides, presentFor, offered, holding, emptied}
 use Rattle.rules.specs.Profiles.{badCable}
 use Rattle.requests.specs.Answering.{answerRefusals}
 use Rattle.ports.specs.Soundness.{soundRow}
 use Rattle.ports.specs.RuleLists.{ruleList}
 use Rattle.ports.specs.Requests.{newHeld}
-use Rattle.ports.specs.Refusing.{tableRefusals, freshRow, freshRows, setUpRefusals, faultRows, sumFault, soundRefusals, remainingRefusals, noSuchPort, portRefusals, cannotAttach, attachRefusals, notAttached, useRefusals, ownRefusals, noPowerNow, requestRefusals}
+use Rattle.ports.specs.Refusing.{tableRefusals, freshRow, setUpRefusals, remainingRefusals, portRefusals, cannotAttach, notAttached, ownRefusals, noPowerNow}
 use Rattle.ports.specs.Deciding.{setUpVerdict, noOffer, noChange, offering, changing, attachOffer, advertiseOffer, requestChange, detachChange, noPowerLeft, powerLeft}
 use Rattle.ports.proofs.Sums.{same-figures, others-agree}
 use Rattle.ports.proofs.Passing.{port-numbered, port-at}
-use Rattle.ports.proofs.Judged.{clear}
 
 -- the rows lent are the same
 pub record SameRows (t u : Ports) : Type 0 where

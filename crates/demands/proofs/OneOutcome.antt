@@ -18,7 +18,6 @@ use Rattle.verdicts.specs.declared.Verdict.{Verdict}
 use Rattle.lists.specs.declared.Listing.{Listing}
 use Rattle.ports.specs.declared.Row.{Row}
 use Rattle.ports.specs.declared.Ports.{Ports}
-use Rattle.ports.specs.declared.RemainingPower.{RemainingPower}
 use Rattle.demands.proofs.Contracts.{EmptiedAnswers, SetUpDecides, AttachDecides, AdvertiseDecides, RequestDecides, DetachDecides, RemainingDecides}
 use Rattle.board.specs.Promises.{SharesSetUp, SharesAttach, SharesAdvertise, SharesRequest, SharesDetach, SharesRemaining}
 

@@ -1,38 +1,34 @@
 -- Demand 2, the power rules: what is built passes its own check and goes there and back; and which currents are allowed, plainly.
 -- Assumes nothing.
-use mathlib.Core.Path.{_≡_, refl, sym, ap, ap₂, _∙_, subst}
-use mathlib.Core.Bool.{Bool, true, false, _&&_, _||_, or-true, and-eq-true-iff}
+use mathlib.Core.Path.{_≡_, refl, sym, ap, _∙_}
+use mathlib.Core.Bool.{Bool, true, false, _&&_, _||_, and-eq-true-iff}
 use mathlib.Core.List.{List}
 use mathlib.Core.Logic.{_↔_, _⊎_, inl, inr, ⊎-elim}
-use Prim.Native.Nat.{ℕ, _*_, _^_, _≤_, _<_, min}
-use native.Mathlib.Nat.{le-min, le-trans, min-le-left, min-le-right}
-use native.Mathlib.Omega.{arith}
-use lib.Dec.{leb, ltb, eqb}
+use Prim.Native.Nat.{ℕ, _*_, _≤_, _<_, min}
+use lib.Dec.{leb, eqb}
 use lib.ListN.{getD}
 use borrow.Author.Tests.{leb-true, le-leb, eqb-true, eq-eqb}
 use Rattle.verdicts.specs.declared.Verdict.{Verdict}
 use Rattle.verdicts.specs.Refusals.{success}
-use Rattle.verdicts.proofs.First.{NoneApply, all-missed, none-applied, passes}
-use Rattle.objects.proofs.Made.{made-lt}
+use Rattle.verdicts.proofs.First.{NoneApply, all-missed, none-applied}
 use Rattle.lists.specs.declared.Words.{Words}
 use Rattle.lists.specs.declared.Reading.{Reading}
 use Rattle.lists.specs.declared.Listing.{Listing}
 use Rattle.lists.specs.Kept.{keptWords}
-use Rattle.lists.specs.Shape.{shapeRefusals, shapeOf}
 use Rattle.lists.specs.Seven.{sevenTo}
 use Rattle.lists.specs.Reading.{readOf}
 use Rattle.lists.specs.Writing.{writeOf}
-use Rattle.lists.proofs.Sevens.{filled-at, same-seven, past-filled}
+use Rattle.lists.proofs.Sevens.{filled-at, same-seven}
 use Rattle.lists.proofs.Readings.{read-clear}
 use Rattle.lists.proofs.RoundTrips as whole-list
 use Rattle.rules.specs.declared.Profile.{Profile}
 use Rattle.rules.specs.Profiles.{buildRefusals}
 use Rattle.rules.specs.Currents.{downAt, upAt, cable10mA, fixedAllowed, progDown, cable50mA, progCurrent, mayExceed, progAllowed}
-use Rattle.rules.specs.Building.{wordFor, builtCount, builtWords, builtOf}
+use Rattle.rules.specs.Building.{wordFor, builtCount, builtWords}
 use Rattle.rules.specs.Checking.{checkRefusals, checkedOf}
 use Rattle.rules.proofs.Allowed.{at-20-V, above-3-A, up-to-3-A}
 use Rattle.rules.proofs.Builds.{build-numbered, build-verdict, build-clear}
-use Rattle.rules.proofs.Checks.{check-numbered, check-verdict}
+use Rattle.rules.proofs.Checks.{check-verdict}
 use Rattle.demands.proofs.BuiltPasses.{shape-clear, check-clear, built-counts, built-fits}
 use Rattle.demands.proofs.Contracts.{ReadAnswers, WriteAnswers, BuildAnswers, CheckAnswers}
 

@@ -2,11 +2,10 @@
 -- the order does; on a refusal everything else is zero. The tables of rows are in specs/ of `lists`, in 01's order.
 -- Assumes nothing.
 use mathlib.Core.Path.{_≡_, refl, sym, ap, _∙_, subst}
-use mathlib.Core.Bool.{Bool, true, false}
+use mathlib.Core.Bool.{false}
 use mathlib.Core.List.{List}
-use mathlib.Core.Logic.{_↔_, _⊎_, inl, inr, ⊎-elim}
-use Prim.Native.Nat.{ℕ, zero, suc, _<_}
-use native.Mathlib.Omega.{arith}
+use mathlib.Core.Logic.{_↔_, _⊎_}
+use Prim.Native.Nat.{ℕ}
 use Rattle.verdicts.specs.declared.Verdict.{Verdict}
 use Rattle.verdicts.specs.Refusals.{Refusal, verdict, success, verdictOf}
 use Rattle.verdicts.proofs.First.{NoneApply, First, Exactly, exactly}
@@ -22,7 +21,7 @@ use Rattle.lists.specs.declared.Words.{Words}
 use Rattle.lists.specs.declared.Objects.{Objects}
 use Rattle.lists.specs.declared.Reading.{Reading}
 use Rattle.lists.specs.declared.Listing.{Listing}
-use Rattle.lists.specs.Shape.{shapeRefusals, shapeOf}
+use Rattle.lists.specs.Shape.{shapeRefusals}
 use Rattle.lists.specs.Reading.{noObjects}
 use Rattle.lists.specs.Writing.{noWords, writeRefusals}
 use Rattle.lists.proofs.Shapes.{shape-numbered, shape-verdict}

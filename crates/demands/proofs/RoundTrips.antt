@@ -1,11 +1,10 @@
 -- Demand 2, what is read and written: the round trips of one word and of a list, over the contracts of the calls.
 -- Assumes nothing.
-use mathlib.Core.Path.{_≡_, refl, sym, ap, _∙_, subst}
-use mathlib.Core.Bool.{Bool, true, false}
+use mathlib.Core.Path.{_≡_, sym, ap, _∙_}
+use mathlib.Core.Bool.{Bool, false}
 use Prim.Native.Nat.{ℕ, _^_, _<_}
 use Rattle.verdicts.specs.declared.Verdict.{Verdict}
 use Rattle.verdicts.specs.Refusals.{success}
-use Rattle.verdicts.proofs.First.{NoneApply, none-applied, onto}
 use Rattle.objects.specs.declared.Object.{Object}
 use Rattle.objects.specs.declared.Decoded.{Decoded}
 use Rattle.objects.specs.declared.Decoded.the-variants.{Known}
@@ -18,8 +17,8 @@ use Rattle.lists.specs.declared.Reading.{Reading}
 use Rattle.lists.specs.declared.Listing.{Listing}
 use Rattle.lists.specs.Kept.{keptWords, keptObjects}
 use Rattle.lists.specs.Shape.{shapeOf}
-use Rattle.lists.specs.Reading.{objectsOf, readOf}
-use Rattle.lists.specs.Writing.{wordsOf, writeRefusals, writeOf}
+use Rattle.lists.specs.Reading.{readOf}
+use Rattle.lists.specs.Writing.{writeOf}
 use Rattle.lists.proofs.Shapes.{none-of}
 use Rattle.lists.proofs.Readings.{read-passes}
 use Rattle.lists.proofs.Writings.{write-passes, write-clear}

@@ -1,14 +1,13 @@
 -- Demand 1 for the sharing calls: number n with its place is given exactly when refusal n applies there and none before it in the
 -- order does; on a refusal the list is empty, the power zero, and no row changes. The tables of rows are in specs/ of `ports`.
 -- Assumes nothing.
-use mathlib.Core.Path.{_≡_, refl, sym, ap, _∙_}
+use mathlib.Core.Path.{_≡_, refl, ap, _∙_}
 use mathlib.Core.Bool.{true}
 use mathlib.Core.List.{List}
 use Prim.Native.Nat.{ℕ}
 use Rattle.verdicts.specs.declared.Verdict.{Verdict}
 use Rattle.verdicts.specs.Refusals.{Refusal, firstOf, verdict, success, verdictOf}
 use Rattle.verdicts.proofs.First.{onto, refused-so, passes, numbered, exactly}
-use Rattle.steps.specs.declared.HalfWatts.{HalfWatts}
 use Rattle.lists.specs.declared.Listing.{Listing}
 use Rattle.lists.specs.Writing.{noWords, writeRefused}
 use Rattle.ports.specs.declared.Row.{Row}

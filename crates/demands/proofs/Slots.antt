@@ -1,33 +1,20 @@
 -- What stands at the slots of a port's list, computed for each port maximum from 1 to 200, and the objects built for them.
 -- Assumes nothing.
-use mathlib.Core.Path.{_≡_, refl, sym, ap, ap₂, _∙_, subst}
-use mathlib.Core.Bool.{Bool, true, false, not, cond, _&&_, _||_, and-eq-true-iff}
-use mathlib.Core.List.{List, [], _∷_, _++_}
-use Prim.Native.Nat.{ℕ, zero, suc, _+_, _-_, _*_, _^_, _≤_, _<_, min}
-use native.Mathlib.Nat.{min-le-right}
-use native.Mathlib.Numerals.{add-one}
+use mathlib.Core.Path.{_≡_, refl, sym, ap, _∙_, subst}
+use mathlib.Core.Bool.{Bool, true, false, _&&_, _||_, and-eq-true-iff}
+use mathlib.Core.List.{List, [], _∷_}
+use Prim.Native.Nat.{ℕ, zero, suc, _*_, _≤_, _<_}
 use native.Mathlib.Omega.{arith}
 use lib.Dec.{leb, ltb, eqb}
 use lib.ListN.{length, getD}
 use borrow.Author.Tests.{leb-true, ltb-true, le-ltb, eqb-true}
-use Rattle.objects.specs.declared.Object.{Object}
-use Rattle.objects.specs.declared.Object.the-variants as object
-use Rattle.objects.specs.declared.Encoded.the-variants.{Word}
-use Rattle.objects.specs.Layout.{allFit}
-use Rattle.objects.specs.Encode.{fieldsOf, ifFit, wordOf, encodeOf}
-use Rattle.objects.proofs.Made.{flagless}
 use Rattle.lists.specs.ObjectRules.{rankOf, keyOf, keysMayFollow, mayFollow}
-use Rattle.lists.specs.Writing.{wordIn}
 use Rattle.rules.specs.declared.Profile.{Profile}
 use Rattle.rules.specs.declared.Slot.{Slot}
 use Rattle.rules.specs.declared.Slot.the-variants.{Nothing, Fixed, Avs, Prog}
-use Rattle.rules.specs.Profiles.{profileRefusals}
-use Rattle.rules.specs.Plans.{rails, fixedSlots, baseSlots, progSlots, slots}
-use Rattle.rules.specs.Currents.{limitAt, builtCurrent, progLimit, progCurrent, roundedAs, downAt, upAt, progDown}
-use Rattle.rules.specs.Building.{flagsAt, objectFor}
+use Rattle.rules.specs.Plans.{baseSlots, progSlots, slots}
+use Rattle.rules.specs.Building.{objectFor}
 use Rattle.rules.proofs.PlanFacts.{everyBelow, at-each}
-use Rattle.verdicts.proofs.First.{NoneApply}
-use Rattle.rules.proofs.ProfileCases.{flags-high}
 
 -- ---- slots that a list can have
 

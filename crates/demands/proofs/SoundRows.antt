@@ -3,11 +3,11 @@
 use mathlib.Core.Path.{_≡_, refl, sym, ap, _∙_, subst}
 use mathlib.Core.Bool.{Bool, true, false, not, _||_}
 use mathlib.Core.List.{List, [], _∷_, _++_, map}
-use Prim.Native.Nat.{ℕ, zero, suc, _+_, _-_, _*_, _≤_, _<_, min}
+use Prim.Native.Nat.{ℕ, zero, suc, _+_, _-_, _*_, _≤_, _<_}
 use native.Mathlib.Nat.{le-min, lt-suc-self}
 use native.Mathlib.Omega.{arith}
-use lib.Dec.{ltb, eqb}
-use lib.ListN.{length, getD, set, length-set}
+use lib.Dec.{eqb}
+use lib.ListN.{length, set}
 use borrow.Author.Tests.{eqb-true, eqb-false, ltb-false, le-ltb, not-false}
 use Rattle.verdicts.specs.declared.Verdict.{Verdict}
 use Rattle.verdicts.specs.Refusals.{Refusal, refusal, eachPlace, firstOf, success}
@@ -15,26 +15,25 @@ use Rattle.verdicts.proofs.First.{NoneApply, none-left, none-right, none-at, no
 use Rattle.steps.proofs.RangeLaws.{at-least, at-most}
 use Rattle.lists.specs.declared.Listing.{Listing}
 use Rattle.rules.specs.Profiles.{badCable}
-use Rattle.requests.specs.Answering.{answerRefusals, answerOf}
+use Rattle.requests.specs.Answering.{answerOf}
 use Rattle.requests.proofs.Answers.{answer-verdict}
 use Rattle.ports.specs.declared.Row.{Row}
 use Rattle.ports.specs.declared.Ports.{Ports}
-use Rattle.ports.specs.declared.RemainingPower.{RemainingPower}
-use Rattle.ports.specs.Rows.{noRow, rowOf, portRow, heldAt, allHeld, othersHeld, leftFor, together, besides, emptied, presentFor, offered, holding}
+use Rattle.ports.specs.Rows.{rowOf, portRow, heldAt, allHeld, othersHeld, leftFor, together, besides, emptied, presentFor, offered, holding}
 use Rattle.ports.specs.Soundness.{soundRow}
 use Rattle.ports.specs.RuleLists.{ruleList}
 use Rattle.ports.specs.Requests.{newHeld}
 use Rattle.ports.specs.Refusing.{tableRefusals, freshRows, setUpRefusals, faultRows, sumFault, soundRefusals, remainingRefusals, portRefusals, cannotAttach, attachRefusals, useRefusals, ownRefusals, noPowerNow, requestRefusals}
 use Rattle.ports.specs.Lending.{lent, unlessRefused, setUpRows, attachRows, advertiseRows, requestRows, detachRows}
-use Rattle.ports.proofs.Sound.{SoundAttached, SoundEmpty, SoundLimits, limits-of, sound-empty, sound-attached, attached-sound, empty-sound, either-cable}
+use Rattle.ports.proofs.Sound.{SoundAttached, SoundLimits, limits-of, sound-empty, sound-attached, attached-sound, empty-sound, either-cable}
 use Rattle.ports.proofs.RuleLists.{attached-from-15, attached-offerable}
 use Rattle.ports.proofs.Sums.{others-agree, one-apart}
-use Rattle.ports.proofs.Passing.{count-high, capacity-low, table-passes, sound-at, sum-fits, rows-pass, port-low, port-at, eight-rows, own-fits, row-sound, use-port, attached, cable-kept}
-use Rattle.ports.proofs.Offering.{held-from-15, left-from-15, offered-to-max}
+use Rattle.ports.proofs.Passing.{count-high, capacity-low, sound-at, sum-fits, rows-pass, port-at, eight-rows, own-fits, row-sound, use-port, attached, cable-kept}
+use Rattle.ports.proofs.Offering.{held-from-15, offered-to-max}
 use Rattle.board.specs.Promises.{SharesSetUp, SharesAttach, SharesAdvertise, SharesRequest, SharesDetach}
 use Rattle.demands.proofs.AcceptedPower.{held-to-P}
 use Rattle.demands.proofs.AcceptedPower as accepted
-use Rattle.demands.proofs.LentRows.{lent-count, lent-row, written-count, written-there, written-elsewhere, emptied-count, emptied-row}
+use Rattle.demands.proofs.LentRows.{lent-count, written-count, written-there, written-elsewhere, emptied-count, emptied-row}
 
 -- ---- sound rows by value
 

@@ -9,7 +9,6 @@ use native.Mathlib.Omega.{arith}
 use lib.ListN.{getD}
 use Rattle.verdicts.specs.declared.Verdict.{Verdict}
 use Rattle.verdicts.specs.Refusals.{firstOf, eachPlace, success}
-use Rattle.steps.specs.declared.HalfWatts.{HalfWatts}
 use Rattle.steps.specs.Rounding.{downOf, upOf}
 use Rattle.objects.specs.Bits.{bits}
 use Rattle.objects.specs.Decode.{decodeOf, reservedSet}

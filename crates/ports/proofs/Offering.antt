@@ -1,8 +1,8 @@
 -- A port that is offered power (01, "Attach and advertise set P to ..., and return the list"): its list can be built.
 -- Assumes nothing.
-use mathlib.Core.Path.{_≡_, refl, ap, _∙_}
-use mathlib.Core.Bool.{Bool, true, false, not, _||_}
-use Prim.Native.Nat.{ℕ, _+_, _-_, _≤_, min}
+use mathlib.Core.Path.{_≡_, refl, ap}
+use mathlib.Core.Bool.{Bool, true, false, _||_}
+use Prim.Native.Nat.{ℕ, _≤_}
 use native.Mathlib.Nat.{min-le-left, le-min}
 use native.Mathlib.Omega.{arith}
 use lib.Dec.{eqb}

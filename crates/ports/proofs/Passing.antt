@@ -1,18 +1,17 @@
 -- What the tables of refusals say where no row of them applies, and that each row has a number.
 -- Assumes nothing.
 use mathlib.Core.Path.{_≡_, refl, ap}
-use mathlib.Core.Bool.{Bool, true, false, not}
-use mathlib.Core.List.{List, [], _∷_, _++_}
+use mathlib.Core.Bool.{true, false, not}
+use mathlib.Core.List.{_++_}
 use Prim.Native.Nat.{ℕ, _+_, _-_, _*_, _≤_, _<_}
 use native.Mathlib.Omega.{arith}
-use lib.Dec.{ltb, eqb}
+use lib.Dec.{eqb}
 use borrow.Author.Tests.{ltb-false, not-false, not-true}
 use Rattle.verdicts.specs.declared.Verdict.{Verdict}
-use Rattle.verdicts.specs.Refusals.{Refusal, refusal, eachPlace, verdict, success, verdictOf}
+use Rattle.verdicts.specs.Refusals.{eachPlace, verdict, success, verdictOf}
 use Rattle.verdicts.proofs.First.{NoneApply, none-left, none-right, none-at, none-applied, all-missed, numbered, numbered-append, numbered-places}
 use Rattle.steps.proofs.RangeLaws.{at-least, at-most}
 use Rattle.rules.specs.Profiles.{badCable}
-use Rattle.requests.specs.Answering.{answerRefusals}
 use Rattle.requests.proofs.Answers.{answer-numbered}
 use Rattle.ports.specs.declared.Ports.{Ports}
 use Rattle.ports.specs.Rows.{rowOf, portRow, allHeld, othersHeld, heldAt}

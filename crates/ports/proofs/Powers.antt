@@ -2,8 +2,8 @@
 -- Assumes nothing.
 use mathlib.Core.Path.{_≡_, refl, sym, ap, _∙_}
 use mathlib.Core.List.{[], _∷_}
-use Prim.Native.Nat.{ℕ, _*_, _≤_, _<_, min, max}
-use native.Mathlib.Nat.{zero-mul, min-eq-left, min-eq-right, max-eq-left, max-eq-right, le-of-lt}
+use Prim.Native.Nat.{ℕ, _*_, min}
+use native.Mathlib.Nat.{zero-mul}
 use native.Mathlib.Omega.{arith}
 use types.Run.{OneOf}
 use denote.Enum.Declared.{tagOf}
@@ -25,7 +25,7 @@ use Rattle.requests.specs.declared.Request.{Request}
 use Rattle.requests.specs.declared.Request.the-variants as asked
 use Rattle.requests.specs.Taking.{requestOf}
 use Rattle.requests.specs.Limits.{voltsOf, operatingOf}
-use Rattle.ports.specs.Requests.{voltageFor, halfWattsFor, cutFor}
+use Rattle.ports.specs.Requests.{halfWattsFor, cutFor}
 
 -- ---- in the steps themselves: a half watt is 1000 times 50 mV by 10 mA, 400 times 25 mV by 50 mA, 500 times 20 mV by 50 mA
 

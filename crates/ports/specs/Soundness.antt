@@ -1,7 +1,6 @@
 -- When rows are sound (01, "Ports that share").
 -- Assumes nothing.
 use mathlib.Core.Bool.{Bool, cond, _&&_, _||_}
-use Prim.Native.Nat.{ℕ}
 use lib.Dec.{leb, eqb}
 use Rattle.steps.specs.Ranges.{within}
 use Rattle.ports.specs.declared.Row.{Row}

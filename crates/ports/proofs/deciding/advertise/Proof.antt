@@ -1,6 +1,6 @@
 -- `ports::deciding::advertise` meets its contract.
 -- Assumes nothing.
-use mathlib.Core.Path.{_≡_, sym, _∙_}
+use mathlib.Core.Path.{sym, _∙_}
 use native.Mathlib.Omega.{arith}
 use Rattle.ports.specs.Rows.{portRow, offered}
 use Rattle.ports.specs.Refusing.{useRefusals}

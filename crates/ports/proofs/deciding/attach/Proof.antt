@@ -1,7 +1,7 @@
 -- `ports::deciding::attach` meets its contract.
 -- Assumes nothing.
-use mathlib.Core.Path.{_≡_, sym, _∙_}
-use Rattle.verdicts.proofs.First.{NoneApply, none-left, none-right}
+use mathlib.Core.Path.{sym, _∙_}
+use Rattle.verdicts.proofs.First.{none-left, none-right}
 use Rattle.ports.specs.Rows.{offered}
 use Rattle.ports.specs.Refusing.{portRefusals, cannotAttach, attachRefusals}
 use Rattle.ports.specs.Deciding.{noOffer, offering, attachOffer}

@@ -1,6 +1,6 @@
 -- `ports::deciding::detach` meets its contract.
 -- Assumes nothing.
-use mathlib.Core.Path.{_≡_, sym, ap, _∙_}
+use mathlib.Core.Path.{sym, ap, _∙_}
 use Prim.Native.Nat.{_-_}
 use native.Mathlib.Omega.{arith}
 use Rattle.verdicts.specs.declared.Verdict.{Verdict}

@@ -1,6 +1,6 @@
 -- `ports::deciding::left_for` meets its contract.
 -- Assumes nothing.
-use mathlib.Core.Path.{_≡_, ap}
+use mathlib.Core.Path.{ap}
 use Prim.Native.Nat.{ℕ, _-_}
 use native.Mathlib.Omega.{arith}
 use Rattle.ports.proofs.Passing.{port-clear, port-low, port-at, eight-rows, own-fits}

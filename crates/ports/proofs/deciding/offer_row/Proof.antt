@@ -1,6 +1,6 @@
 -- `ports::deciding::offer_row` meets its contract: the row is the one offered, and its list can be built.
 -- Assumes nothing.
-use mathlib.Core.Path.{_≡_, sym, ap, _∙_}
+use mathlib.Core.Path.{_≡_, ap, _∙_}
 use Prim.Native.Nat.{ℕ, _-_, min}
 use native.Mathlib.Omega.{arith}
 use Rattle.steps.specs.declared.HalfWatts.{HalfWatts}

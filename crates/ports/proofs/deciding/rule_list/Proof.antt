@@ -1,11 +1,11 @@
 -- `ports::deciding::rule_list` meets its contract.
 -- Assumes nothing.
-use mathlib.Core.Path.{_≡_, ap, _∙_}
+use mathlib.Core.Path.{ap, _∙_}
 use Prim.Native.Nat.{ℕ}
 use Rattle.rules.specs.declared.Profile.{Profile}
 use Rattle.rules.specs.Building.{builtOf}
 use Rattle.ports.specs.declared.Row.{Row}
-use Rattle.ports.specs.RuleLists.{rulePps, ruleProfile}
+use Rattle.ports.specs.RuleLists.{ruleProfile}
 use borrow.Author.Needs.{needs}
 use Rattle.ports.proofs.deciding.rule_list.Statement.{statement}
 use Rattle.ports.proofs.deciding.rule_list.Tie as tie

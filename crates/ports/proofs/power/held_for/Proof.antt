@@ -1,9 +1,8 @@
 -- `ports::power::held_for` meets its contract.
 -- Assumes nothing.
-use mathlib.Core.Path.{_≡_, refl, sym, ap, _∙_, subst}
+use mathlib.Core.Path.{_≡_, sym, ap, _∙_, subst}
 use Prim.Native.Nat.{ℕ, _-_, _≤_, _<_, max}
 use native.Mathlib.Nat.{max-eq-left, max-eq-right, le-of-lt}
-use native.Mathlib.Omega.{arith}
 use lib.ListN.{getD}
 use Rattle.objects.specs.declared.Decoded.{Decoded}
 use Rattle.objects.specs.Decode.{decodeOf}

@@ -1,16 +1,12 @@
 -- `ports::soundness::fresh_fault` meets its contract: the invariant is that no row passed is at fault.
 -- Assumes nothing.
 use mathlib.Core.Path.{_≡_, refl, sym, ap, _∙_, subst}
-use mathlib.Core.Bool.{Bool, true, false, not}
-use mathlib.Core.List.{[]}
-use Prim.Native.Nat.{ℕ, _+_, _-_, _≤_}
+use Prim.Native.Nat.{ℕ, _-_, _≤_}
 use native.Mathlib.Omega.{arith}
 use borrow.Author.Needs.{needs}
 use Rattle.verdicts.specs.declared.Verdict.{Verdict}
 use Rattle.verdicts.specs.Refusals.{eachPlace, verdict, success}
-use Rattle.verdicts.proofs.First.{NoneApply, none-yet, none-more, none-applied, refused-so, all-missed, decided, hit}
-use Rattle.ports.specs.Rows.{rowOf}
-use Rattle.ports.specs.Soundness.{soundRow}
+use Rattle.verdicts.proofs.First.{NoneApply, none-yet, none-more, none-applied, refused-so, all-missed, decided}
 use Rattle.ports.specs.Refusing.{freshRows}
 use Rattle.ports.proofs.soundness.fresh_fault.Statement.{statement}
 use Rattle.ports.proofs.soundness.fresh_fault.Tie as tie

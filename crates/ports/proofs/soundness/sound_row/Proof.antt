@@ -1,8 +1,7 @@
 -- `ports::soundness::sound_row` meets its contract.
 -- Assumes nothing.
-use mathlib.Core.Path.{_≡_, sym, ap, _∙_}
+use mathlib.Core.Path.{sym, ap, _∙_}
 use mathlib.Core.Bool.{Bool, cond}
-use lib.Dec.{eqb}
 use borrow.Author.Tests.{eq-eqb, ne-eqb}
 use Rattle.ports.specs.Soundness.{soundEmpty, soundAttached}
 use Rattle.ports.proofs.SoundTests.{max-low, max-high, pps-high, by-cable}
