@@ -26,6 +26,9 @@ pub const PPS_BELOW_MAXIMUM: u8 = 6;
 // Writing an object.
 pub const FIELD_TOO_WIDE: u8 = 7;
 
+// An input record.
+pub const RECORD_SHORT: u8 = 9;
+
 // The shape of a list.
 pub const COUNT: u8 = 10;
 

@@ -1,0 +1,33 @@
+-- Laws of text put into a block: none, one byte, and one text after another.
+-- Assumes nothing.
+use mathlib.Core.Path.{_≡_, refl, ap, sym, subst, _∙_}
+use mathlib.Core.List.{List, [], _∷_, _++_, append-assoc, append-nil}
+use Prim.Native.Nat.{ℕ, _+_, _<_}
+use native.Mathlib.Nat.{add-zero}
+use native.Mathlib.Numerals.{add-one}
+use native.Mathlib.Omega.{arith}
+use lib.ListN.{length, take, set, length-append, length-set}
+use lib.Seq.{take-suc-set}
+use Rattle.caps.specs.Lines.{Appended}
+
+pub nothing : (block : List ℕ) (at : ℕ) → Appended block at [] block at
+nothing block at = record { ends = sym (add-zero at); size = refl; text = sym (append-nil (take at block)) }
+
+pub one : (block : List ℕ) (at byte : ℕ) → at < length block → Appended block at (byte ∷ []) (set block at byte) (at + 1)
+one block at byte h =
+    record {
+      ends = refl;
+      size = length-set block at byte;
+      text = rw add-one (take-suc-set block at byte h);
+    }
+
+pub joined : {a b c xs ys : List ℕ} {i j k : ℕ} → Appended a i xs b j → Appended b j ys c k → Appended a i (xs ++ ys) c k
+joined {a} {b} {c} {xs} {ys} {i} {j} {k} first second =
+    record {
+      ends = omega (arith, first .ends, second .ends, length-append xs ys);
+      size = second .size ∙ first .size;
+      text = second .text ∙ ap (λ (l : List ℕ). l ++ ys) (first .text) ∙ append-assoc (take i a) xs ys;
+    }
+
+pub text-is : {a b xs ys : List ℕ} {i j : ℕ} → xs ≡ ys → Appended a i xs b j → Appended a i ys b j
+text-is {a} {b} {xs} {ys} {i} {j} e h = subst (λ (l : List ℕ). Appended a i l b j) e h

@@ -1,0 +1,18 @@
+-- A record (01, "The listing program"): "M and P (two bytes each, low first), cable, rounding, PPS wanted, F".
+-- Assumes nothing.
+use mathlib.Core.List.{List}
+use Prim.Native.Nat.{ℕ, _+_, _*_}
+use lib.ListN.{getD}
+use Rattle.rules.specs.declared.Profile.{Profile}
+
+-- the profile of the record whose first byte is at a place of the input
+abbrev pub profileAt : List ℕ → ℕ → Profile
+profileAt s at =
+    record {
+      max = record { 0 = getD s at 0 + 256 * getD s (at + 1) 0 };
+      present = record { 0 = getD s (at + 2) 0 + 256 * getD s (at + 3) 0 };
+      cable = getD s (at + 4) 0;
+      rounding = getD s (at + 5) 0;
+      pps = getD s (at + 6) 0;
+      flags = getD s (at + 7) 0;
+    }

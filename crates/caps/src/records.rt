@@ -1,0 +1,29 @@
+// A record taken apart: "M and P (two bytes each, low first), cable, rounding, PPS wanted, F".
+ghost use mathlib.Core.Path.{_≡_};
+ghost use Prim.Native.Nat.{_+_, _*_, _≤_};
+ghost use lib.ListN.{length};
+ghost use Rattle.caps.specs.Records.{profileAt};
+use rules::Profile;
+use steps::HalfWatts;
+
+pub const RECORD: usize = 8;
+
+fn two_bytes(low: u8, high: u8) -> u16
+    ensures { λ r. ⌜ r ≡ low + 256 * high ⌝ }
+{
+    high as u16 + 256 * (low as u16)
+}
+
+pub fn profile_at(input: &[u8], at: usize) -> Profile
+    requires { ⌜ at + 8 ≤ length (now input) ⌝ }
+    ensures { λ r. ⌜ r ≡ profileAt (now (input .entry)) at ⌝ }
+{
+    Profile {
+        max: HalfWatts(two_bytes(input[at], input[at + 1])),
+        present: HalfWatts(two_bytes(input[at + 2], input[at + 3])),
+        cable: input[at + 4],
+        rounding: input[at + 5],
+        pps: input[at + 6],
+        flags: input[at + 7],
+    }
+}

@@ -1,0 +1,88 @@
+// Which call a line asks for. No name is the beginning of another, and whatever follows the name is looked at by the call's own
+// line function.
+use crate::list_calls::answer_call_line;
+use crate::list_calls::build_line;
+use crate::list_calls::check_line;
+use crate::list_calls::default_line;
+use crate::list_calls::read_line;
+use crate::list_calls::shape_line;
+use crate::list_calls::write_line;
+use crate::port_calls::advertise_line;
+use crate::port_calls::attach_line;
+use crate::port_calls::detach_line;
+use crate::port_calls::remaining_line;
+use crate::port_calls::request_line;
+use crate::port_calls::set_up_line;
+use crate::table::Answered;
+use crate::table::Table;
+use crate::table::rows_line;
+use crate::table::table_line;
+use lines::put_unreadable;
+
+fn begins(line: &[u8], name: &[u8]) -> bool {
+    if line.len() < name.len() {
+        return false;
+    }
+    let mut i = 0;
+    while i < name.len() {
+        if line[i] != name[i] {
+            return false;
+        }
+        i += 1;
+    }
+    true
+}
+
+fn answer_list_line(line: &[u8], out: &mut [u8; 4096], end: usize) -> usize {
+    if begins(line, b"default") {
+        return default_line(line, 7, out, end);
+    }
+    if begins(line, b"build") {
+        return build_line(line, 5, out, end);
+    }
+    if begins(line, b"shape") {
+        return shape_line(line, 5, out, end);
+    }
+    if begins(line, b"check") {
+        return check_line(line, 5, out, end);
+    }
+    if begins(line, b"read") {
+        return read_line(line, 4, out, end);
+    }
+    if begins(line, b"write") {
+        return write_line(line, 5, out, end);
+    }
+    if begins(line, b"answer") {
+        return answer_call_line(line, 6, out, end);
+    }
+    put_unreadable(out, end)
+}
+
+pub(crate) fn answer_line(line: &[u8], table: Table, out: &mut [u8; 4096], end: usize) -> Answered {
+    if begins(line, b"setup") {
+        return set_up_line(line, 5, out, end, table);
+    }
+    if begins(line, b"attach") {
+        return attach_line(line, 6, out, end, table);
+    }
+    if begins(line, b"advertise") {
+        return advertise_line(line, 9, out, end, table);
+    }
+    if begins(line, b"request") {
+        return request_line(line, 7, out, end, table);
+    }
+    if begins(line, b"detach") {
+        return detach_line(line, 6, out, end, table);
+    }
+    if begins(line, b"remaining") {
+        return remaining_line(line, 9, out, end, table);
+    }
+    if begins(line, b"rows") {
+        return rows_line(line, 4, out, end, table);
+    }
+    if begins(line, b"table") {
+        return table_line(line, 5, out, end, table);
+    }
+    let told = answer_list_line(line, out, end);
+    Answered { table, end: told }
+}

@@ -1,0 +1,21 @@
+// The lines of the console: the fields that are typed, and the answers that are told.
+mod fields;
+mod object_fields;
+mod printing;
+
+pub use fields::Number;
+pub use fields::SmallNumber;
+pub use fields::Word;
+pub use fields::take_number;
+pub use fields::take_small_number;
+pub use fields::take_word;
+pub use object_fields::ObjectFields;
+pub use object_fields::put_objects;
+pub use object_fields::take_objects;
+pub use printing::flush;
+pub use printing::put;
+pub use printing::put_field;
+pub use printing::put_listing;
+pub use printing::put_text;
+pub use printing::put_unreadable;
+pub use printing::put_verdict;

@@ -1,0 +1,241 @@
+"""The console of CONSOLE.md over the model: one call a line, one line each.
+
+What the page leaves open is decided in NOTES.md, under "The console".
+"""
+
+import sys
+
+import charger
+from charger import Avs, Battery, Fixed, Objects, Pps, Profile, Row, Variable, Words
+
+# "more than 512 bytes": the newline is not part of the line.
+LONGEST_LINE = 512
+MOST_ROWS = 9
+UNREADABLE = "?"
+
+DECIMAL_DIGITS = frozenset("0123456789")
+HEX_DIGITS = frozenset("0123456789abcdefABCDEF")
+
+LARGEST_8_BIT = 0xFF
+LARGEST_16_BIT = 0xFFFF
+
+# An object as a line gives it: its letter, its kind, the largest number each
+# field may be before the line is unreadable. Figures of measure are 16-bit
+# numbers; flags, peak and limited are 8-bit numbers.
+OBJECT_FORMS = {
+    "F": (Fixed, (LARGEST_8_BIT, LARGEST_8_BIT, LARGEST_16_BIT, LARGEST_16_BIT)),
+    "B": (Battery, (LARGEST_16_BIT, LARGEST_16_BIT, LARGEST_16_BIT)),
+    "V": (Variable, (LARGEST_16_BIT, LARGEST_16_BIT, LARGEST_16_BIT)),
+    "P": (Pps, (LARGEST_8_BIT, LARGEST_16_BIT, LARGEST_16_BIT, LARGEST_16_BIT)),
+    "A": (Avs, (LARGEST_8_BIT, LARGEST_16_BIT, LARGEST_16_BIT)),
+}
+LETTERS = {kind: letter for letter, (kind, _) in OBJECT_FORMS.items()}
+
+
+class Unreadable(Exception):
+    """A line the console cannot read."""
+
+
+class State:
+    """The console's own port rows, which start as no rows at all."""
+
+    def __init__(self):
+        self.rows = []
+
+
+class Fields:
+    """The fields of a line, taken from left to right."""
+
+    def __init__(self, fields):
+        self.left = list(fields)
+
+    def take(self):
+        if not self.left:
+            raise Unreadable
+        return self.left.pop(0)
+
+    def end(self):
+        if self.left:
+            raise Unreadable
+
+    def number(self, largest):
+        field = self.take()
+        if not field or not DECIMAL_DIGITS.issuperset(field) or int(field) > largest:
+            raise Unreadable
+        return int(field)
+
+    def byte(self):
+        return self.number(LARGEST_8_BIT)
+
+    def short(self):
+        return self.number(LARGEST_16_BIT)
+
+    def word(self):
+        field = self.take()
+        if len(field) != 8 or not HEX_DIGITS.issuperset(field):
+            raise Unreadable
+        return int(field, 16)
+
+    def words(self):
+        """A list is always given as its count and seven words."""
+        count = self.byte()
+        return Words(count, tuple(self.word() for _ in range(charger.PLACES_IN_A_LIST)))
+
+    def profile(self):
+        return Profile(self.short(), self.short(), self.byte(), self.byte(), self.byte(), self.byte())
+
+    def one_object(self):
+        kind, largest = OBJECT_FORMS.get(self.take(), (None, None))
+        if kind is None:
+            raise Unreadable
+        return kind(*[self.number(most) for most in largest])
+
+    def objects(self):
+        """Exactly N objects where N is 1 to 7, and none otherwise."""
+        count = self.byte()
+        given = [self.one_object() for _ in range(count)] if 1 <= count <= 7 else []
+        return Objects(count, charger.list_of_objects(given).places)
+
+    def row(self):
+        """M W C P HELD"""
+        return Row(self.short(), self.byte(), self.byte(), self.short(), self.short())
+
+
+# ------------------------------------------------------------------ answers
+
+
+def said(answer, *more):
+    return " ".join(str(part) for part in (answer.number, answer.place) + more)
+
+
+def said_nothing_more(answer):
+    return said(answer)
+
+
+def said_words(answer):
+    return said(answer, answer.value.count, *["%08X" % word for word in charger.held_in(answer.value)])
+
+
+def said_objects(answer):
+    told = []
+    for obj in charger.held_in(answer.value):
+        told += [LETTERS[type(obj)], *obj]
+    return said(answer, answer.value.count, *told)
+
+
+def said_profile(answer):
+    return said(answer, *answer.value)
+
+
+def said_power(answer):
+    return said(answer, answer.value)
+
+
+# -------------------------------------------------------------------- lines
+
+# word: what its fields are, the call, what is said of its answer
+STATELESS_CALLS = {
+    "default": ((Fields.short,), charger.default_profile, said_profile),
+    "build": ((Fields.profile,), charger.build, said_words),
+    "shape": ((Fields.words,), charger.shape, said_nothing_more),
+    "check": ((Fields.profile, Fields.words), charger.check, said_nothing_more),
+    "read": ((Fields.words,), charger.read, said_objects),
+    "write": ((Fields.objects,), charger.write, said_words),
+    "answer": ((Fields.words, Fields.word), charger.answer, said_nothing_more),
+}
+
+# the same, for calls over the rows; the first field is the capacity
+SHARING_CALLS = {
+    "setup": ((), charger.set_up, said_nothing_more),
+    "attach": ((Fields.byte, Fields.byte), charger.attach, said_words),
+    "advertise": ((Fields.byte,), charger.advertise, said_words),
+    "request": ((Fields.byte, Fields.word), charger.request, said_nothing_more),
+    "detach": ((Fields.byte,), charger.detach, said_nothing_more),
+    "remaining": ((), charger.remaining, said_power),
+}
+
+
+def taken(fields, takers):
+    inputs = [take(fields) for take in takers]
+    fields.end()
+    return inputs
+
+
+def set_rows(state, fields):
+    """Five numbers for each row; up to 9 rows, none allowed."""
+    rows = []
+    while fields.left:
+        rows.append(fields.row())
+    if len(rows) > MOST_ROWS:
+        raise Unreadable
+    state.rows = rows
+    return "rows %d" % len(rows)
+
+
+def table(state):
+    told = ["rows", len(state.rows)]
+    for row in state.rows:
+        told += row
+    return " ".join(str(part) for part in told)
+
+
+def answer_readable(state, line):
+    if len(line) > LONGEST_LINE:
+        raise Unreadable
+    fields = Fields(line.split(" "))
+    call = fields.take()
+    if call in STATELESS_CALLS:
+        takers, judge, say = STATELESS_CALLS[call]
+        return say(judge(*taken(fields, takers)))
+    if call in SHARING_CALLS:
+        takers, judge, say = SHARING_CALLS[call]
+        capacity, *rest = taken(fields, (Fields.short,) + takers)
+        return say(judge(capacity, state.rows, *rest))
+    if call == "rows":
+        return set_rows(state, fields)
+    if call == "table":
+        fields.end()
+        return table(state)
+    raise Unreadable
+
+
+def answer_line(state, line):
+    """The console's line for a line, given without its newline, one character
+    a byte."""
+    try:
+        return answer_readable(state, line)
+    except Unreadable:
+        return UNREADABLE
+
+
+def lines_of(source):
+    """The lines of a source of bytes, in constant memory: a line over the
+    limit is kept only up to one byte past it, which is enough to refuse it.
+    The end of the input ends a line too, unless that line is empty."""
+    line = bytearray()
+    while True:
+        chunk = source.read(65536)
+        if not chunk:
+            break
+        pieces = chunk.split(b"\n")
+        for piece in pieces[:-1]:
+            line += piece[: LONGEST_LINE + 1 - len(line)]
+            yield line.decode("latin-1")
+            line.clear()
+        line += pieces[-1][: LONGEST_LINE + 1 - len(line)]
+    if line:
+        yield line.decode("latin-1")
+
+
+def serve(source, sink):
+    state = State()
+    for line in lines_of(source):
+        sink.write(answer_line(state, line).encode("ascii") + b"\n")
+
+
+def main():
+    serve(sys.stdin.buffer, sys.stdout.buffer)
+
+
+if __name__ == "__main__":
+    main()

@@ -1,0 +1,97 @@
+"""Writes the console's stored input and what it must answer.
+
+    python3 generate.py console.in console.out
+
+The seed is fixed: the same files come out each time. Each file of inputs/ makes
+one kind of line; unreadable lines are strewn over all of them. At the end the
+lines are counted by refusal number, and a number of 01's table that was given
+fewer than 20 times fails the run.
+"""
+
+import sys
+from collections import Counter
+
+from inputs import ports, requests, rules, shapes
+from inputs.book import book
+from inputs.unreadable import STRANGE_LINES
+
+FEWEST = 20
+NUMBERS = [*range(1, 8), *range(10, 26), *range(30, 38)]
+
+# A number is its value: leading zeros are read, up to 512 bytes of line.
+ODD_BUT_READABLE = (
+    "default 072",
+    "default 0",
+    "default 00",
+    "default 00000000000000000000072",
+    "default " + "0" * 502 + "72",
+    "build 072 072 03 00 01 000",
+)
+
+
+EXAMPLE_OF_THE_PAGE = (
+    "build 72 72 3 0 1 0",
+    "rows 130 0 0 0 0 130 0 0 0 0",
+    "setup 200",
+    "attach 200 1 5",
+    "request 200 1 40051545",
+    "remaining 200",
+    "shape 9 00000000 00000000 00000000 00000000 00000000 00000000 00000000",
+    "hello",
+)
+
+
+def all_lines():
+    book.put("table")
+    book.put("remaining 200")
+    book.put("setup 200")
+    for line in EXAMPLE_OF_THE_PAGE:
+        book.put(line)
+    for line in STRANGE_LINES:
+        assert book.put(line) == "?", line
+    for line in ODD_BUT_READABLE:
+        assert book.put(line) != "?", line
+    rules.default_lines()
+    rules.build_lines()
+    shapes.shape_lines()
+    shapes.read_lines()
+    shapes.write_lines()
+    rules.check_lines()
+    requests.answer_lines()
+    ports.port_lines()
+    # the end of the input in the middle of a line: this line has no newline
+    book.put("build 72 72 3 0 1 0")
+
+
+def count_lines():
+    """Lines per refusal number, and the numbers given too seldom."""
+    by_number = Counter()
+    by_call = Counter()
+    for given, answered in zip(book.given, book.answered):
+        first = answered.split(" ")[0]
+        by_number[first] += 1
+        by_call["?" if first == "?" else given.split(" ")[0]] += 1
+    print("lines in all: %d" % len(book.given))
+    print("by call: " + ", ".join("%s %d" % pair for pair in sorted(by_call.items())))
+    print("accepted (0): %d" % by_number["0"])
+    print("unreadable (?): %d, %.1f %%" % (by_number["?"], 100 * by_number["?"] / len(book.given)))
+    for number in NUMBERS:
+        print("refusal %2d: %d" % (number, by_number[str(number)]))
+    return [number for number in NUMBERS if by_number[str(number)] < FEWEST]
+
+
+def main():
+    if len(sys.argv) != 3:
+        sys.exit("usage: python3 generate.py console.in console.out")
+    all_lines()
+    with open(sys.argv[1], "wb") as file:
+        file.write("\n".join(book.given).encode("latin-1"))
+    with open(sys.argv[2], "wb") as file:
+        file.write(("\n".join(book.answered) + "\n").encode("ascii"))
+    seldom = count_lines()
+    if seldom:
+        sys.exit("given fewer than %d times: %s" % (FEWEST, seldom))
+
+
+if __name__ == "__main__":
+    main()

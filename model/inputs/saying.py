@@ -1,0 +1,49 @@
+"""How inputs are said on a line, and the figures at the bounds of 01."""
+
+import console
+import charger
+from inputs.seed import rng
+
+# M at, below and above each bound of 01
+EDGES_OF_M = (1, 2, 14, 15, 16, 29, 30, 31, 32, 53, 54, 55, 56, 60, 72, 80, 89, 90, 91, 92, 100)
+EDGES_OF_M += (110, 118, 119, 120, 121, 130, 160, 180, 199, 200)
+MARKED_PROFILES = ((72, 72, 3, 0, 1, 0), (160, 80, 5, 1, 0, 0), (80, 80, 3, 0, 0, 0), (160, 130, 5, 0, 0, 0))
+
+
+def hex_of(word):
+    """8 hex digits, small or capital."""
+    return ("%08x" if rng.random() < 0.2 else "%08X") % word
+
+
+def past_the_count():
+    """What stands in a place past the count, where nothing may look."""
+    return rng.choice((0, 0, 0xFFFFFFFF, 0xD0000000, rng.getrandbits(32)))
+
+
+def said_list(words, count=None):
+    """A count and seven words."""
+    count = len(words) if count is None else count
+    seven = list(words) + [past_the_count() for _ in range(7 - len(words))]
+    return " ".join([str(count)] + [hex_of(word) for word in seven])
+
+
+def said_profile(profile):
+    return " ".join(str(figure) for figure in profile)
+
+
+def said_object(obj):
+    return " ".join(str(part) for part in (console.LETTERS[type(obj)], *obj))
+
+
+def said_write(objects, count=None):
+    count = len(objects) if count is None else count
+    return " ".join(["write", str(count)] + [said_object(obj) for obj in objects])
+
+
+def words_of(objects):
+    return [charger.encode(obj) for obj in objects]
+
+
+def near(*figures):
+    """Each figure, and one step to each side of it."""
+    return sorted({side for figure in figures for side in (figure - 1, figure, figure + 1) if side >= 0})
