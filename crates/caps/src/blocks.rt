@@ -1,5 +1,5 @@
-// Standard input to standard output, in blocks: a block is read whole, and written only when the next line may not fit
-// or the input has ended. So a read or a write moves as much as it can, whatever the records give.
+// Standard input to standard output, through one block for each. A read asks for all the room of its block. The other
+// block is written when the next line may not fit and when the input has ended, so a write is never small before that.
 ghost use mathlib.Core.Path.{_≡_};
 ghost use Prim.Native.Nat.{_+_, _*_, _≤_, _<_};
 ghost use lib.ListN.{length, take, drop};
@@ -80,7 +80,7 @@ fn finish(kept: usize, out: &mut [u8], next: usize)
     flush(out, end);
 }
 
-// Some bytes from a place on go to the start.
+// The bytes of an unfinished record, wherever a read cut it, go to the start of the block.
 fn keep(input: &mut [u8], from: usize, count: usize)
     requires { ⌜ from + count ≤ length (now input) ⌝ }
     ensures { λ _. ⌜ take count (now (input .exit)) ≡ take count (drop from (now (input .entry))) ⌝ }

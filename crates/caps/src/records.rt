@@ -11,7 +11,7 @@ pub const RECORD: usize = 8;
 fn two_bytes(low: u8, high: u8) -> u16
     ensures { λ r. ⌜ r ≡ low + 256 * high ⌝ }
 {
-    high as u16 + 256 * (low as u16)
+    low as u16 + 256 * (high as u16)
 }
 
 pub fn profile_at(input: &[u8], at: usize) -> Profile
