@@ -7,19 +7,19 @@ need_kit() {
   fi
 }
 
-# The words that stand before a program to run it: none on x86-64. Elsewhere the kit's emulator, with the kit's own loader and C
-# library, since the machine has none for x86-64.
-emulator() {
-  local machine home own
+# The words that stand before a program to run it, as rt itself runs programs: the kit's loader with its C library, and before these the
+# kit's emulator where the machine is not x86-64.
+runner() {
+  local machine home tools emulator
   machine=$(uname -m)
-  if [ "$machine" = x86_64 ]; then
-    return
-  fi
   home=$(dirname "$(dirname "$(readlink -f "$(command -v rt)")")")
-  own="$home/on/$machine/toolchain/bin/qemu-x86_64"
-  if [ ! -x "$own" ]; then
+  tools="$home/on/$machine/toolchain"
+  emulator="$tools/bin/qemu-x86_64"
+  if [ "$machine" = x86_64 ]; then
+    emulator=
+  elif [ ! -x "$emulator" ]; then
     echo "$who: programs are for x86-64, this machine is $machine, and the kit has no emulator for it" >&2
     exit 2
   fi
-  echo "$own $home/toolchain/lib/ld-linux-x86-64.so.2 --library-path $home/toolchain/lib"
+  echo "$emulator $tools/lib/ld-linux-x86-64.so.2 --library-path $tools/lib"
 }
