@@ -8,10 +8,10 @@ use Prim.Native.Nat.{ℕ, _-_, _≤_, _<_}
 use native.Mathlib.Omega.{arith}
 use lib.Dec.{ltb, eqb}
 use lib.ListN.{length}
-use borrow.Author.Tests.{lt-ltb, le-ltb, ltb-true, ltb-false}
+use borrow.Author.Tests.{lt-ltb, le-ltb, ltb-true, ltb-false, not-false}
 use Rattle.verdicts.specs.declared.Verdict.{Verdict}
 use Rattle.verdicts.specs.Refusals.{firstOf, verdict, success, verdictOf}
-use Rattle.verdicts.proofs.First.{NoneApply, none-append, all-missed, onward, hit, miss, refused-so}
+use Rattle.verdicts.proofs.First.{NoneApply, none-append, none-left, none-right, all-missed, onward, hit, miss, refused-so}
 use Rattle.steps.proofs.RangeLaws.{inside}
 use Rattle.lists.specs.declared.Words.{Words}
 use Rattle.lists.specs.declared.Listing.{Listing}
@@ -27,11 +27,12 @@ use Rattle.ports.specs.Requests.{newHeld}
 use Rattle.ports.specs.Refusing.{remainingRefusals, noSuchPort, portRefusals, cannotAttach, attachRefusals, notAttached, useRefusals, ownRefusals, noPowerNow}
 use Rattle.ports.specs.Deciding.{powerLeft, noPowerLeft}
 use Rattle.ports.specs.Lending.{lent, attachAnswer, advertiseAnswer, requestAnswer, detachAnswer, remainingAnswer}
-use Rattle.ports.proofs.Passing.{sum-fits}
+use Rattle.ports.proofs.Passing.{sum-fits, port-low, port-high, port-at, use-port, in-use}
 use Rattle.ports.proofs.Judged.{clear}
 use Rattle.ports.proofs.Asking.{accepts}
 use Rattle.board.specs.Promises.{SharesAttach, SharesAdvertise, SharesRequest, SharesDetach, SharesRemaining}
-use Rattle.demands.proofs.History.{Known, figures, smaller, newFigure, maxOf, wantedOf, known, listFor, IsAttached, Event, Run}
+use Rattle.demands.proofs.History.{Known, figures, smaller, newFigure, maxOf, wantedOf, known, listFor, IsAttached, CanAttach, Event, Run}
+use Rattle.demands.proofs.SharingRefusals.{attach-refusals, advertise-refusals, request-refusals, detach-refusals}
 use Rattle.demands.proofs.Kept.{Kept, run-kept, same-together, same-left, same-present, same-held, same-cable}
 
 -- What is to hold of the rows ys after a run, where h is what is known from its calls and answers, start what was lent to set-up, and
@@ -40,20 +41,24 @@ pub record AfterRun (capacity : ℕ) (start : List Row) (h : ℕ → Known) (ys 
   -- "the figures together never pass the capacity"
   pub within-capacity : together (figures h) (length start) ≤ capacity
   -- "the next list that attach or advertise returns is the rule list for M at the smaller of M and capacity less the other figures":
-  -- an empty port can be attached with a cable of 3 or 5 A, an attached one can be advertised again
+  -- attach is accepted exactly for an empty port and a cable of 3 or 5 A, advertise exactly for an attached port
   pub attach-list : (port cable : ℕ) (r : Listing) (zs : List Row) → SharesAttach ys capacity port cable r zs
-      → 1 ≤ port → port ≤ length start → badCable cable ≡ false → eqb (h (port - 1) .cable) 0 ≡ true
+      → CanAttach (length start) h port cable
       → r ≡ record {
         verdict = success;
-        list = listFor (maxOf start (port - 1)) (wantedOf start (port - 1)) cable (smaller capacity
-            (length start) (maxOf start) h port);
+        list = listFor (maxOf start (port - 1)) (wantedOf start (port - 1)) cable (smaller capacity (length start) (maxOf start) h port);
       }
+  pub attach-only : (port cable : ℕ) (r : Listing) (zs : List Row) → SharesAttach ys capacity port cable r zs
+      → r .verdict ≡ success → CanAttach (length start) h port cable
   pub advertise-list : (port : ℕ) (r : Listing) (zs : List Row) → SharesAdvertise ys capacity port r zs → IsAttached (length start) h port
       → r ≡ record {
         verdict = success;
-        list = listFor (maxOf start (port - 1)) (wantedOf start (port - 1)) (h (port - 1) .cable)
+        list =
+            listFor (maxOf start (port - 1)) (wantedOf start (port - 1)) (h (port - 1) .cable)
             (smaller capacity (length start) (maxOf start) h port);
       }
+  pub advertise-only : (port : ℕ) (r : Listing) (zs : List Row) → SharesAdvertise ys capacity port r zs
+      → r .verdict ≡ success → IsAttached (length start) h port
   -- "a request that the port's current list allows is refused with 36 exactly when its new figure exceeds capacity less the others,
   -- and accepted otherwise"
   pub refused-36 : (port word : ℕ) (r : Verdict) (zs : List Row) → SharesRequest ys capacity port word r zs → IsAttached (length start) h port
@@ -65,6 +70,10 @@ pub record AfterRun (capacity : ℕ) (start : List Row) (h : ℕ → Known) (ys 
   -- "one the list does not allow gets the list's own refusal"
   pub own-refusal : (port word : ℕ) (r : Verdict) (zs : List Row) → SharesRequest ys capacity port word r zs → IsAttached (length start) h port
       → (answerOf (h (port - 1) .list) word ≡ success → ⊥) → r ≡ answerOf (h (port - 1) .list) word
+  -- a request is accepted, and a port detached, only where the port is attached
+  pub request-only : (port word : ℕ) (r : Verdict) (zs : List Row) → SharesRequest ys capacity port word r zs
+      → r ≡ success → IsAttached (length start) h port
+  pub detach-only : (port : ℕ) (r : Verdict) (zs : List Row) → SharesDetach ys capacity port r zs → r ≡ success → IsAttached (length start) h port
   -- an attached port can be detached
   pub detach-accepted : (port : ℕ) (r : Verdict) (zs : List Row) → SharesDetach ys capacity port r zs → IsAttached (length start) h port → r ≡ success
   -- "remaining power is capacity less all the figures"
@@ -135,6 +144,46 @@ module _ (capacity : ℕ) (start : List Row) (h : ℕ → Known) (ys : List Row)
         list = listFor (maxOf start (port - 1)) (wantedOf start (port - 1)) c (smaller capacity
             (length start) (maxOf start) h port);
       }) (k .each (port - 1) l .cable-is)
+
+  -- ---- what an accepted call says of its port
+
+  attached-so : (port : ℕ) → NoneApply (useRefusals capacity (lent ys) port) → IsAttached (length start) h port
+  attached-so port x =
+      let p = use-port capacity (lent ys) port x in
+      record {
+        from-1 = port-low capacity (lent ys) port p;
+        to-count = subst (λ (n : ℕ). port ≤ n) (k .count-is) (port-high capacity (lent ys) port p);
+        cabled = sym (same-cable capacity start h ys k port (port-at capacity (lent ys) port p)) ∙ in-use capacity (lent ys) port x;
+      }
+
+  attach-so : (port cable : ℕ) (r : Listing) (zs : List Row) → SharesAttach ys capacity port cable r zs
+      → r .verdict ≡ success → CanAttach (length start) h port cable
+  attach-so port cable r zs e s =
+      let x = attach-refusals ys capacity port cable r zs e .0 .0 .0 s in
+      let p = none-left (portRefusals capacity (lent ys) port) (cannotAttach (lent ys) port cable) x in
+      let rest = none-right (portRefusals capacity (lent ys) port) (cannotAttach (lent ys) port cable) x in
+      record {
+        from-1 = port-low capacity (lent ys) port p;
+        to-count = subst (λ (n : ℕ). port ≤ n) (k .count-is) (port-high capacity (lent ys) port p);
+        good-cable = rest .0;
+        free =
+            sym (same-cable capacity start h ys k port (port-at capacity (lent ys) port p))
+            ∙ not-false (eqb (portRow (lent ys) port .cable) 0) (rest .1 .0);
+      }
+
+  advertise-so : (port : ℕ) (r : Listing) (zs : List Row) → SharesAdvertise ys capacity port r zs
+      → r .verdict ≡ success → IsAttached (length start) h port
+  advertise-so port r zs e s = attached-so port (advertise-refusals ys capacity port r zs e .0 .0 .0 s)
+
+  request-so : (port word : ℕ) (r : Verdict) (zs : List Row) → SharesRequest ys capacity port word r zs
+      → r ≡ success → IsAttached (length start) h port
+  request-so port word r zs e s =
+      attached-so port
+      (none-left (useRefusals capacity (lent ys) port) (ownRefusals (lent ys) port word ++ noPowerNow capacity (lent ys) port word)
+      (request-refusals ys capacity port word r zs e .0 .0 .0 s))
+
+  detach-so : (port : ℕ) (r : Verdict) (zs : List Row) → SharesDetach ys capacity port r zs → r ≡ success → IsAttached (length start) h port
+  detach-so port r zs e s = attached-so port (detach-refusals ys capacity port r zs e .0 .0 .0 s)
 
   -- ---- requests
 
@@ -223,11 +272,15 @@ module _ (capacity : ℕ) (start : List Row) (h : ℕ → Known) (ys : List Row)
   after : AfterRun capacity start h ys
   after = record {
     within-capacity = subst (λ (n : ℕ). n ≤ capacity) (same-together capacity start h ys k) (sum-fits capacity (lent ys) (k .clear));
-    attach-list = attach-next;
+    attach-list = λ port cable r zs e c. attach-next port cable r zs e (c .from-1) (c .to-count) (c .good-cable) (c .free);
+    attach-only = attach-so;
     advertise-list = advertise-next;
+    advertise-only = advertise-so;
     refused-36 = by-36;
     accepted-else = by-success;
     own-refusal = refused-own;
+    request-only = request-so;
+    detach-only = detach-so;
     detach-accepted = detached-so;
     remaining-power = remains;
   }

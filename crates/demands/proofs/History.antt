@@ -2,7 +2,7 @@
 -- Nothing here reads a row after set-up: M and PPS wanted are what the caller lent to set-up, all else is in calls and answers.
 -- Assumes nothing.
 use mathlib.Core.Path.{_≡_}
-use mathlib.Core.Bool.{false, cond}
+use mathlib.Core.Bool.{true, false, cond}
 use mathlib.Core.List.{List, [], _∷_}
 use Prim.Native.Nat.{ℕ, _-_, _≤_, min}
 use lib.Dec.{eqb}
@@ -12,6 +12,7 @@ use Rattle.verdicts.specs.Refusals.{success}
 use Rattle.lists.specs.declared.Words.{Words}
 use Rattle.lists.specs.declared.Listing.{Listing}
 use Rattle.lists.specs.Writing.{noWords}
+use Rattle.rules.specs.Profiles.{badCable}
 use Rattle.ports.specs.declared.Row.{Row}
 use Rattle.ports.specs.declared.RemainingPower.{RemainingPower}
 use Rattle.ports.specs.Rows.{halfWatts, noRow, together, besides}
@@ -122,3 +123,10 @@ pub record IsAttached (count : ℕ) (h : ℕ → Known) (port : ℕ) : Type 0 wh
   pub from-1 : 1 ≤ port
   pub to-count : port ≤ count
   pub cabled : eqb (h (port - 1) .cable) 0 ≡ false
+
+-- a port that can be attached with a cable, by what is known
+pub record CanAttach (count : ℕ) (h : ℕ → Known) (port cable : ℕ) : Type 0 where
+  pub from-1 : 1 ≤ port
+  pub to-count : port ≤ count
+  pub good-cable : badCable cable ≡ false
+  pub free : eqb (h (port - 1) .cable) 0 ≡ true
