@@ -34,7 +34,7 @@ use Rattle.steps.proofs.HalfWatts as HW
 use Rattle.steps.proofs.HalfWatts.Laws as HW′
 use Rattle.ports.specs.declared.Row.{Row}
 use Rattle.ports.specs.declared.Ports.{Ports}
-use Rattle.ports.specs.Rows.{halfWatts}
+use Rattle.rules.specs.Profiles.{halfWatts}
 use Rattle.ports.specs.Lending.{lent}
 use Rattle.ports.proofs.Ports as B
 use Rattle.ports.proofs.Ports.Laws as B′

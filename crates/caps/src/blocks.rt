@@ -134,7 +134,7 @@ fn list_some(input: &mut [u8], kept: usize, out: &mut [u8], next: usize) -> Step
 }
 
 // A proved loop has to end, and nothing says that the input does. So it counts down from a number that no run uses up.
-pub fn list_all(input: &mut [u8], out: &mut [u8])
+pub(crate) fn list_all(input: &mut [u8], out: &mut [u8])
     requires { ⌜ (8 ≤ length (now input)) × (71 ≤ length (now out)) ⌝ }
 {
     let mut kept = 0;

@@ -91,7 +91,7 @@ fn put_places(out: &mut [u8], at: usize, list: Words) -> usize
     next
 }
 
-pub fn put_line(out: &mut [u8], at: usize, listing: Listing) -> usize
+pub(crate) fn put_line(out: &mut [u8], at: usize, listing: Listing) -> usize
     requires { ⌜ at + 71 ≤ length (now out) ⌝ }
     ensures { λ r. ⌜ Appended (now (out .entry)) at (lineOf listing) (now (out .exit)) r ⌝ }
 {
@@ -119,7 +119,7 @@ fn short_record() -> Listing
 }
 
 // "A last record of 1 to 7 bytes prints `9 0`."
-pub fn put_short(out: &mut [u8], at: usize) -> usize
+pub(crate) fn put_short(out: &mut [u8], at: usize) -> usize
     requires { ⌜ at + 71 ≤ length (now out) ⌝ }
     ensures { λ r. ⌜ Appended (now (out .entry)) at (57 ∷ 32 ∷ 48 ∷ 10 ∷ []) (now (out .exit)) r ⌝ }
 {

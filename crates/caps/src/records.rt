@@ -14,7 +14,7 @@ fn two_bytes(low: u8, high: u8) -> u16
     low as u16 + 256 * (high as u16)
 }
 
-pub fn profile_at(input: &[u8], at: usize) -> Profile
+pub(crate) fn profile_at(input: &[u8], at: usize) -> Profile
     requires { ⌜ at + 8 ≤ length (now input) ⌝ }
     ensures { λ r. ⌜ r ≡ profileAt (now (input .entry)) at ⌝ }
 {

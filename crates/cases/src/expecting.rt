@@ -12,19 +12,19 @@ fn is_listing(l: Listing, wanted: Words) -> bool {
     same_verdict(verdict, 0, 0) && same_words(list, wanted)
 }
 
-pub fn checks(p: Profile, list: Words, number: u8, place: u8) -> bool {
+pub(crate) fn checks(p: Profile, list: Words, number: u8, place: u8) -> bool {
     let verdict = rules::check(p, list);
     same_verdict(verdict, number, place)
 }
 
 // The list that is built, and it passes the rule check of its own profile.
-pub fn is_built(p: Profile, wanted: Words) -> bool {
+pub(crate) fn is_built(p: Profile, wanted: Words) -> bool {
     let built = rules::build(p);
     is_listing(built, wanted) && checks(p, wanted, 0, 0)
 }
 
 // 01: "A case by M alone uses the default profile."
-pub fn is_default(max: u16, wanted: Words) -> bool {
+pub(crate) fn is_default(max: u16, wanted: Words) -> bool {
     let d = rules::default_profile(HalfWatts(max));
     let verdict = d.verdict;
     let p = d.profile;
@@ -32,7 +32,7 @@ pub fn is_default(max: u16, wanted: Words) -> bool {
 }
 
 // A request's own refusals have place 0.
-pub fn answers(list: Words, request: u32, number: u8) -> bool {
+pub(crate) fn answers(list: Words, request: u32, number: u8) -> bool {
     let verdict = requests::answer(list, request);
     same_verdict(verdict, number, 0)
 }

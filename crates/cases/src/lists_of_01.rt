@@ -78,7 +78,7 @@ fn rounded_up() -> Words {
     }
 }
 
-pub fn list_l() -> Words {
+pub(crate) fn list_l() -> Words {
     offers(300, 300, 300, 325, 300, 325)
 }
 
@@ -98,7 +98,7 @@ fn marked_by_profile() {
     );
 }
 
-pub fn run() {
+pub(crate) fn run() {
     around_90();
     marked_by_m();
     marked_by_profile();

@@ -15,7 +15,7 @@ pub const NO_PPS: u8 = 0;
 pub const PPS: u8 = 1;
 
 // M and P in half watts, the cable in amperes.
-pub fn profile(max: u16, present: u16, cable: u8, rounding: u8, pps: u8) -> Profile {
+pub(crate) fn profile(max: u16, present: u16, cable: u8, rounding: u8, pps: u8) -> Profile {
     Profile {
         max: HalfWatts(max),
         present: HalfWatts(present),
@@ -31,7 +31,7 @@ fn half_watts(watts: u8) -> u16 {
 }
 
 // The same in watts, in the order of table 10-4: port maximum and cable, then port present.
-pub fn port(maximum: u8, cable: u8, present: u8, rounding: u8, pps: u8) -> Profile {
+pub(crate) fn port(maximum: u8, cable: u8, present: u8, rounding: u8, pps: u8) -> Profile {
     profile(
         half_watts(maximum),
         half_watts(present),
@@ -94,7 +94,7 @@ fn fixed_part(at_5_v: u32, at_9_v: u32, at_15_v: u32, at_20_v: u32) -> Words {
 }
 
 // The fixed objects and AVS.
-pub fn offers(
+pub(crate) fn offers(
     at_5_v: u32,
     at_9_v: u32,
     at_15_v: u32,
@@ -107,7 +107,7 @@ pub fn offers(
 }
 
 // With 9 V Prog, 15 V Prog and 20 V Prog, whose ranges end at 11, 16 and 21 V (table 10-8).
-pub fn with_progs(list: Words, prog_9_v: u32, prog_15_v: u32, prog_20_v: u32) -> Words {
+pub(crate) fn with_progs(list: Words, prog_9_v: u32, prog_15_v: u32, prog_20_v: u32) -> Words {
     let list = with_word(list, prog(11, prog_9_v));
     let list = with_word(list, prog(16, prog_15_v));
     with_word(list, prog(21, prog_20_v))

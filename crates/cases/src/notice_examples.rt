@@ -102,7 +102,7 @@ fn of_80_w() {
     tell(b"80 W without PPS", without_pps(80, 5, base));
 }
 
-pub fn run() {
+pub(crate) fn run() {
     of_27_w();
     of_36_w();
     of_36_w_raised();

@@ -10,7 +10,7 @@ fn on_l(position: u32, in_25_mv: u32, current: u32, number: u8) -> bool {
 }
 
 // Columns: position, voltage in 25 mV, current in 10 mA; the answer. 600 is 15.0 V, 596 is 14.9 V, 356 is 8.9 V.
-pub fn run() {
+pub(crate) fn run() {
     let right = on_l(5, 600, 325, 0);
     tell(b"on L, position 5: 15.0 V at 3.25 A passes", right);
     let right = on_l(5, 600, 330, 24);

@@ -56,7 +56,7 @@ fn at_20_w() {
     tell(b"table 10-4, 40 W / 3 A, 20 W, down", right);
 }
 
-pub fn run() {
+pub(crate) fn run() {
     at_65_w();
     at_40_w();
     at_20_w();

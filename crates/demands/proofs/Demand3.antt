@@ -16,12 +16,12 @@ use Rattle.steps.proofs.RangeLaws.{inside}
 use Rattle.lists.specs.declared.Words.{Words}
 use Rattle.lists.specs.declared.Listing.{Listing}
 use Rattle.lists.specs.Writing.{writeRefused}
-use Rattle.rules.specs.Profiles.{badCable}
+use Rattle.rules.specs.Profiles.{badCable, halfWatts}
 use Rattle.requests.specs.Answering.{answerRefusals, answerOf}
 use Rattle.requests.proofs.Answers.{answer-numbered, answer-verdict}
 use Rattle.ports.specs.declared.Row.{Row}
 use Rattle.ports.specs.declared.RemainingPower.{RemainingPower}
-use Rattle.ports.specs.Rows.{halfWatts, portRow, leftFor, together, besides, presentFor, offered}
+use Rattle.ports.specs.Rows.{portRow, leftFor, together, besides, presentFor, offered}
 use Rattle.ports.specs.RuleLists.{rulePps, ruleProfile, ruleList}
 use Rattle.ports.specs.Requests.{newHeld}
 use Rattle.ports.specs.Refusing.{remainingRefusals, noSuchPort, portRefusals, cannotAttach, attachRefusals, notAttached, useRefusals, ownRefusals, noPowerNow}

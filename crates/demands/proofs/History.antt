@@ -12,10 +12,10 @@ use Rattle.verdicts.specs.Refusals.{success}
 use Rattle.lists.specs.declared.Words.{Words}
 use Rattle.lists.specs.declared.Listing.{Listing}
 use Rattle.lists.specs.Writing.{noWords}
-use Rattle.rules.specs.Profiles.{badCable}
+use Rattle.rules.specs.Profiles.{badCable, halfWatts}
 use Rattle.ports.specs.declared.Row.{Row}
 use Rattle.ports.specs.declared.RemainingPower.{RemainingPower}
-use Rattle.ports.specs.Rows.{halfWatts, noRow, together, besides}
+use Rattle.ports.specs.Rows.{noRow, together, besides}
 use Rattle.ports.specs.RuleLists.{ruleList}
 use Rattle.ports.specs.Requests.{heldFor}
 use Rattle.board.specs.Promises.{SharesSetUp, SharesAttach, SharesAdvertise, SharesRequest, SharesDetach, SharesRemaining}

@@ -13,8 +13,8 @@ use Rattle.steps.specs.Ranges.{within}
 use Rattle.lists.specs.Writing.{writeRefused}
 use Rattle.ports.specs.declared.Row.{Row}
 use Rattle.ports.specs.declared.Ports.{Ports}
-use Rattle.ports.specs.Rows.{halfWatts, noRow, rowOf, portRow, heldAt, allHeld, leftFor, together, besides, presentFor, offered, holding, emptied}
-use Rattle.rules.specs.Profiles.{badCable}
+use Rattle.ports.specs.Rows.{noRow, rowOf, portRow, heldAt, allHeld, leftFor, together, besides, presentFor, offered, holding, emptied}
+use Rattle.rules.specs.Profiles.{badCable, halfWatts}
 use Rattle.requests.specs.Answering.{answerRefusals}
 use Rattle.ports.specs.Soundness.{soundRow}
 use Rattle.ports.specs.RuleLists.{ruleList}

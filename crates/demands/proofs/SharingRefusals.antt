@@ -10,9 +10,9 @@ use Rattle.verdicts.specs.Refusals.{Refusal, firstOf, verdict, success, verdict
 use Rattle.verdicts.proofs.First.{onto, refused-so, passes, numbered, exactly}
 use Rattle.lists.specs.declared.Listing.{Listing}
 use Rattle.lists.specs.Writing.{noWords, writeRefused}
+use Rattle.rules.specs.Profiles.{halfWatts}
 use Rattle.ports.specs.declared.Row.{Row}
 use Rattle.ports.specs.declared.RemainingPower.{RemainingPower}
-use Rattle.ports.specs.Rows.{halfWatts}
 use Rattle.ports.specs.Refusing.{setUpRefusals, attachRefusals, useRefusals, requestRefusals, remainingRefusals}
 use Rattle.ports.specs.Deciding.{noPowerLeft, powerLeft}
 use Rattle.ports.specs.Lending.{lent, unlessRefused, setUpAnswer, setUpRows, attachAnswer, attachRows, advertiseAnswer, advertiseRows, requestAnswer, requestRows, detachAnswer, detachRows, remainingAnswer}

@@ -35,6 +35,7 @@ use Rattle.ports.specs.Deciding.{powerLeft}
 use Rattle.ports.specs.Lending.{lent, setUpAnswer, setUpRows, attachAnswer, attachRows, advertiseAnswer, advertiseRows, requestAnswer, requestRows, detachAnswer, detachRows, remainingAnswer}
 use Rattle.board.specs.Promises.{SharesSetUp, SharesAttach, SharesAdvertise, SharesRequest, SharesDetach, SharesRemaining}
 use Rattle.demands.proofs.Contracts.{ShapeAnswers, BuildAnswers, AnswerAnswers}
+use Rattle.demands.proofs.History.{Run, attached, requested}
 use Rattle.demands.proofs.MarkedCases.{port, two, fixed}
 
 -- ---- what the contracts say at these rows, by computation
@@ -129,6 +130,33 @@ first-cable ys = getD ys 0 noRow .cable
 abbrev second-cable : List Row → ℕ
 second-cable ys = getD ys 1 noRow .cable
 
+-- ---- 5: "one that serves the first call of a run and afterwards only nods": whatever memory the library has of its own
+
+-- a run: set-up, port 1 is attached, and takes its power
+pub first-calls : Run 200 none-attached
+    (requested 1 (fixed 4 325) success ∷ attached 1 5 (record { verdict = success; list = list-130 }) ∷ []) one-holds
+first-calls = record {
+  rows = one-attached;
+  before = record {
+    rows = none-attached;
+    before = record { answer = success; said = set-up-then; accepted = refl };
+    call = attach-then;
+  };
+  call = request-then;
+}
+
+-- no answer to the next call that its contract allows is a nod: neither with the list that the first port got, nor with rows that stay
+module _ (r : Listing) (zs : List Row) (e : SharesAttach one-holds 200 2 5 r zs) where
+  pub no-old-list : r ≡ record { verdict = success; list = list-130 } → ⊥
+  no-old-list q =
+      let z : _≡_ {A = ℕ} 0x0004B0E9 0x0004B12C = ap third-word (sym (only (e .0) (attach-2-then .0)) ∙ q) in
+      absurd (omega (arith, z))
+
+  pub no-old-rows : zs ≡ one-holds → ⊥
+  no-old-rows q =
+      let z : _≡_ {A = ℕ} 5 0 = ap second-cable (sym (only (e .1) (attach-2-then .1)) ∙ q) in
+      absurd (omega (arith, z))
+
 -- ---- a library of calls that meet their contracts
 
 pub record Library : Type 0 where
@@ -221,18 +249,13 @@ module _ (l : Library) (m : Meets l) where
       let z : _≡_ {A = ℕ} 0 5 = ap first-cable (sym (only (m .detaches one-holds 200 1 .1) (detach-then .1)) ∙ f one-holds 200 1) in
       absurd (omega (arith, z))
 
-  -- ---- 5: "one that serves the first call of a run and afterwards only nods": port 1 was attached and took its power; a second
-  -- attach that is merely accepted, with the list that the first one got, or with rows that stay, is none that the contract allows
+  -- ---- 5, for a library without a memory
 
   pub no-same-list : l .attach one-holds 200 2 5 .0 ≡ record { verdict = success; list = list-130 } → ⊥
-  no-same-list e =
-      let z : _≡_ {A = ℕ} 0x0004B0E9 0x0004B12C = ap third-word (sym (only (m .attaches one-holds 200 2 5 .0) (attach-2-then .0)) ∙ e) in
-      absurd (omega (arith, z))
+  no-same-list = no-old-list _ _ (m .attaches one-holds 200 2 5)
 
   pub no-mere-nod : l .attach one-holds 200 2 5 .1 ≡ one-holds → ⊥
-  no-mere-nod e =
-      let z : _≡_ {A = ℕ} 5 0 = ap second-cable (sym (only (m .attaches one-holds 200 2 5 .1) (attach-2-then .1)) ∙ e) in
-      absurd (omega (arith, z))
+  no-mere-nod = no-old-rows _ _ (m .attaches one-holds 200 2 5)
 
   -- ---- 6: "one with invented list counts or remaining power": any other count, any other power
 

@@ -179,7 +179,7 @@ fn avs_to_20_v() {
     );
 }
 
-pub fn run() {
+pub(crate) fn run() {
     voltages_of_fixed_and_pps();
     voltages_of_battery_and_variable();
     powers();

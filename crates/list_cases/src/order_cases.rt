@@ -207,7 +207,7 @@ fn numbers_of_two_words() {
     expect_third(b"15 of a later word before 17", AVS, 0xC1A6323C, 15, 3);
 }
 
-pub fn run() {
+pub(crate) fn run() {
     fixed_voltages_rise();
     min_voltages_do_not_fall();
     max_voltages_of_pps_do_not_fall();

@@ -69,7 +69,7 @@ fn there_and_back() {
     );
 }
 
-pub fn run() {
+pub(crate) fn run() {
     lists_that_pass();
     refusals();
     there_and_back();

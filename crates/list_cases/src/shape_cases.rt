@@ -119,7 +119,7 @@ fn reserved_bits() {
     );
 }
 
-pub fn run() {
+pub(crate) fn run() {
     counts();
     past_the_count();
     first_objects();

@@ -9,7 +9,7 @@ use telling::making::pps;
 use telling::making::words_of;
 
 // Three objects, and zero ones in the other places.
-pub fn objects_of(a: Object, b: Object, c: Object, count: u8) -> Objects {
+pub(crate) fn objects_of(a: Object, b: Object, c: Object, count: u8) -> Objects {
     let zero = Place {
         object: fixed(0, 0, 0, 0),
     };
@@ -23,17 +23,17 @@ pub fn objects_of(a: Object, b: Object, c: Object, count: u8) -> Objects {
 }
 
 // What a refusal returns.
-pub fn no_words() -> Words {
+pub(crate) fn no_words() -> Words {
     words_of(0, 0, 0, 0)
 }
 
-pub fn no_objects() -> Objects {
+pub(crate) fn no_objects() -> Objects {
     let zero = fixed(0, 0, 0, 0);
     objects_of(zero, zero, zero, 0)
 }
 
 // The listing of 01, with a seventh word and a count of the case's own.
-pub fn words_of_36_w(seventh: u32, count: u8) -> Words {
+pub(crate) fn words_of_36_w(seventh: u32, count: u8) -> Words {
     Words {
         words: [
             0x0001912C,
@@ -50,7 +50,7 @@ pub fn words_of_36_w(seventh: u32, count: u8) -> Words {
 
 // The same list by its objects: fixed 5 V and 9 V at 3 A, 15 V at 2.4 A; AVS at 2.4 A to 15 V; PPS 5 to 11 V at 3 A and
 // 5 to 16 V at 2.4 A, both power limited.
-pub fn objects_of_36_w(seventh: Object, count: u8) -> Objects {
+pub(crate) fn objects_of_36_w(seventh: Object, count: u8) -> Objects {
     let a = Place {
         object: fixed(0, 0, 100, 300),
     };

@@ -153,7 +153,7 @@ fn there_and_back() {
     expect_objects(b"written and read again: same objects", objects, wanted);
 }
 
-pub fn run() {
+pub(crate) fn run() {
     lists_that_pass();
     counts();
     fields_too_wide();

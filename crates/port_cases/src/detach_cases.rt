@@ -5,7 +5,7 @@ use port_telling::making::of_one;
 use port_telling::making::of_three;
 use port_telling::making::row;
 
-pub fn run() {
+pub(crate) fn run() {
     let a = row(72, 1, 3, 72, 40);
     let b = row(130, 0, 5, 100, 90);
     let c = row(200, 1, 5, 70, 70);

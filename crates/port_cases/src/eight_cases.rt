@@ -191,7 +191,7 @@ fn at_120() {
     );
 }
 
-pub fn run() {
+pub(crate) fn run() {
     at_1600();
     at_1599();
     at_120();

@@ -141,7 +141,7 @@ fn port_1_asks() {
     );
 }
 
-pub fn run() {
+pub(crate) fn run() {
     port_1_takes();
     port_2_attaches();
     port_2_takes();

@@ -216,7 +216,7 @@ fn lowest_powers() {
     );
 }
 
-pub fn run() {
+pub(crate) fn run() {
     attach_at_the_bound();
     advertise_at_the_bound();
     own_held_is_not_counted();

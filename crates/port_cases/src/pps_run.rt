@@ -192,7 +192,7 @@ fn port_2_leaves() {
     );
 }
 
-pub fn run() {
+pub(crate) fn run() {
     port_1_takes_all();
     port_2_takes_the_rest();
     port_2_gets_pps();

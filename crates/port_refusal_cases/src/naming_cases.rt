@@ -148,7 +148,7 @@ fn order() {
     expect_no_attach(b"attach: 3 before 34", s, 1, 4, 3, 0);
 }
 
-pub fn run() {
+pub(crate) fn run() {
     ports();
     ports_of_eight();
     cables();

@@ -113,7 +113,7 @@ fn not_written() {
     );
 }
 
-pub fn run() {
+pub(crate) fn run() {
     accepted();
     maximums();
     pps_wanted();

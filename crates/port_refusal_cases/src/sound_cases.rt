@@ -202,7 +202,7 @@ fn places() {
     );
 }
 
-pub fn run() {
+pub(crate) fn run() {
     of_any_row();
     of_an_empty_row();
     of_a_cable();

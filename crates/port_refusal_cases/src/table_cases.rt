@@ -100,7 +100,7 @@ fn order() {
     );
 }
 
-pub fn run() {
+pub(crate) fn run() {
     row_counts();
     capacities();
     order();

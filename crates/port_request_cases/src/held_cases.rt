@@ -84,7 +84,7 @@ fn cut_to_p() {
     );
 }
 
-pub fn run() {
+pub(crate) fn run() {
     never_below_15();
     rounded_up();
     operating_current();

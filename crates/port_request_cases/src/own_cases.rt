@@ -152,7 +152,7 @@ fn order() {
     expect_no_request(b"request: 37 before 20", bad, 1, 0, 37, 1);
 }
 
-pub fn run() {
+pub(crate) fn run() {
     bounds();
     places();
     of_the_stored_power();

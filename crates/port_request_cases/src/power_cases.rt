@@ -190,7 +190,7 @@ fn order() {
     );
 }
 
-pub fn run() {
+pub(crate) fn run() {
     bounds();
     own_held_is_not_counted();
     rounded_up();

@@ -9,7 +9,8 @@ use Rattle.ports.specs.declared.Ports.{Ports}
 use Rattle.ports.specs.declared.Offer.{Offer}
 use Rattle.ports.specs.declared.Change.{Change}
 use Rattle.ports.specs.declared.RemainingPower.{RemainingPower}
-use Rattle.ports.specs.Rows.{halfWatts, noRow, portRow, emptied, allHeld, offered, holding}
+use Rattle.rules.specs.Profiles.{halfWatts}
+use Rattle.ports.specs.Rows.{noRow, portRow, emptied, allHeld, offered, holding}
 use Rattle.ports.specs.RuleLists.{ruleList}
 use Rattle.ports.specs.Requests.{newHeld}
 use Rattle.ports.specs.Refusing.{setUpRefusals, remainingRefusals, attachRefusals, useRefusals, requestRefusals}

@@ -4,12 +4,9 @@ use mathlib.Core.Bool.{cond}
 use Prim.Native.Nat.{ℕ, zero, suc, _+_, _-_, min}
 use lib.Dec.{eqb}
 use lib.ListN.{getD}
-use Rattle.steps.specs.declared.HalfWatts.{HalfWatts}
+use Rattle.rules.specs.Profiles.{halfWatts}
 use Rattle.ports.specs.declared.Row.{Row}
 use Rattle.ports.specs.declared.Ports.{Ports}
-
-abbrev pub halfWatts : ℕ → HalfWatts
-halfWatts n = record { 0 = n }
 
 -- no row at all
 abbrev pub noRow : Row

@@ -99,7 +99,7 @@ fn falling() {
     );
 }
 
-pub fn run() {
+pub(crate) fn run() {
     on_l();
     to_15_v();
     falling();

@@ -128,7 +128,7 @@ fn shapes() {
     );
 }
 
-pub fn run() {
+pub(crate) fn run() {
     positions();
     fixed();
     battery();

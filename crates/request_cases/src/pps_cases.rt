@@ -4,7 +4,7 @@ use crate::answering::expect_bound;
 use crate::answering::expect_two;
 use crate::answering::list_of_kinds;
 
-pub fn run() {
+pub(crate) fn run() {
     let k = list_of_kinds();
     expect_bound(
         b"PPS: 5.00 V passes, 4.98 V gets 22",

@@ -38,7 +38,7 @@ fn expect_asked(name: &[u8], o: Object, word: u32, kind: u8, first: u16, second:
 }
 
 // Position 5 and the mismatch bit, then the figures of the kind.
-pub fn run() {
+pub(crate) fn run() {
     expect_asked(
         b"asked of fixed: 300 and 301",
         fixed(0, 0, 100, 300),

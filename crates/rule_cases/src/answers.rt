@@ -5,7 +5,7 @@ use rules::Profile;
 use rules::Profiled;
 use verdicts::Verdict;
 
-pub fn is_verdict(verdict: Verdict, number: u8, place: u8) -> bool {
+pub(crate) fn is_verdict(verdict: Verdict, number: u8, place: u8) -> bool {
     verdict.number == number && verdict.place == place
 }
 
@@ -32,13 +32,13 @@ fn same_profile(a: Profile, b: Profile) -> bool {
         && a.flags == b.flags
 }
 
-pub fn is_listing(l: Listing, number: u8, words: Words) -> bool {
+pub(crate) fn is_listing(l: Listing, number: u8, words: Words) -> bool {
     let verdict = l.verdict;
     let list = l.list;
     is_verdict(verdict, number, 0) && same_words(list, words)
 }
 
-pub fn is_profiled(d: Profiled, number: u8, profile: Profile) -> bool {
+pub(crate) fn is_profiled(d: Profiled, number: u8, profile: Profile) -> bool {
     let verdict = d.verdict;
     let given = d.profile;
     is_verdict(verdict, number, 0) && same_profile(given, profile)

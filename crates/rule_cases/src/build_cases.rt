@@ -65,7 +65,7 @@ fn flags() {
     expect_built(b"built: F 63 in the first word only", p, list);
 }
 
-pub fn run() {
+pub(crate) fn run() {
     lists_of_01();
     voltages_by_maximum();
     rounded_up();

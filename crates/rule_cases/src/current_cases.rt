@@ -94,7 +94,7 @@ fn not_looked_at() {
     expect_check(b"power limited does not matter", p, list, 0, 0);
 }
 
-pub fn run() {
+pub(crate) fn run() {
     at_5_v();
     at_9_v();
     at_15_v();

@@ -26,11 +26,11 @@ fn has_no_default(max: u16) -> bool {
     is_profiled(d, 1, profile(0, 0, 0, 0, 0, 0))
 }
 
-pub fn expect_defaults(name: &[u8], a: u16, b: u16, c: u16) {
+pub(crate) fn expect_defaults(name: &[u8], a: u16, b: u16, c: u16) {
     tell(name, is_default(a) && is_default(b) && is_default(c));
 }
 
-pub fn expect_no_defaults(name: &[u8], a: u16, b: u16, c: u16) {
+pub(crate) fn expect_no_defaults(name: &[u8], a: u16, b: u16, c: u16) {
     tell(
         name,
         has_no_default(a) && has_no_default(b) && has_no_default(c),
@@ -60,17 +60,17 @@ fn taken(p: Profile) -> bool {
     is_verdict(verdict, 0, 0) && checks(p, list, 0, 0)
 }
 
-pub fn expect_refused(name: &[u8], p: Profile, number: u8) {
+pub(crate) fn expect_refused(name: &[u8], p: Profile, number: u8) {
     tell(name, refused(p, number));
 }
 
 // Two profiles: one that is taken, and one that gets the number.
-pub fn expect_bound(name: &[u8], passes: Profile, fails: Profile, number: u8) {
+pub(crate) fn expect_bound(name: &[u8], passes: Profile, fails: Profile, number: u8) {
     tell(name, taken(passes) && refused(fails, number));
 }
 
 // The same where only the builder refuses.
-pub fn expect_not_built(name: &[u8], passes: Profile, fails: Profile, number: u8) {
+pub(crate) fn expect_not_built(name: &[u8], passes: Profile, fails: Profile, number: u8) {
     tell(name, taken(passes) && not_built(fails, number));
 }
 
@@ -80,21 +80,21 @@ fn is_built(p: Profile, list: Words) -> bool {
     is_listing(built, 0, list) && checks(p, list, 0, 0)
 }
 
-pub fn expect_built(name: &[u8], p: Profile, list: Words) {
+pub(crate) fn expect_built(name: &[u8], p: Profile, list: Words) {
     tell(name, is_built(p, list));
 }
 
-pub fn expect_check(name: &[u8], p: Profile, list: Words, number: u8, place: u8) {
+pub(crate) fn expect_check(name: &[u8], p: Profile, list: Words, number: u8, place: u8) {
     tell(name, checks(p, list, number, place));
 }
 
 // 18 has place 0.
-pub fn expect_both_18(name: &[u8], p: Profile, a: Words, b: Words) {
+pub(crate) fn expect_both_18(name: &[u8], p: Profile, a: Words, b: Words) {
     tell(name, checks(p, a, 18, 0) && checks(p, b, 18, 0));
 }
 
 // Two lists for one profile: one that passes, and one that gets 18.
-pub fn expect_set(name: &[u8], p: Profile, passes: Words, fails: Words) {
+pub(crate) fn expect_set(name: &[u8], p: Profile, passes: Words, fails: Words) {
     tell(name, checks(p, passes, 0, 0) && checks(p, fails, 18, 0));
 }
 
@@ -114,12 +114,12 @@ fn fixed_range(p: Profile, c: Currents, place: u8, low: u32, high: u32) -> bool 
         && fixed_is(p, c, place, above(high), 19)
 }
 
-pub fn expect_range(name: &[u8], p: Profile, c: Currents, place: u8, low: u32, high: u32) {
+pub(crate) fn expect_range(name: &[u8], p: Profile, c: Currents, place: u8, low: u32, high: u32) {
     tell(name, fixed_range(p, c, place, low, high));
 }
 
 // At its maximum a port with a 3 A cable has 3 A alone there, and one with a 5 A cable has 3 A up to the highest.
-pub fn expect_by_cable(name: &[u8], max: u16, c: Currents, place: u8, high: u32) {
+pub(crate) fn expect_by_cable(name: &[u8], max: u16, c: Currents, place: u8, high: u32) {
     let three = fixed_range(whole(max, 3, 0), c, place, 300, 300);
     let five = fixed_range(whole(max, 5, 0), c, place, 300, high);
     tell(name, three && five);
@@ -147,13 +147,13 @@ fn prog_built(max: u16, cable: u8, list: Words, place: u8, low: u32, high: u32) 
 }
 
 // Either cable has this list. At this place 3 A has the lowest word alone, and 5 A has it up to the highest.
-pub fn expect_prog(name: &[u8], max: u16, list: Words, place: u8, low: u32, high: u32) {
+pub(crate) fn expect_prog(name: &[u8], max: u16, list: Words, place: u8, low: u32, high: u32) {
     let three = prog_built(max, 3, list, place, low, low);
     let five = prog_built(max, 5, list, place, low, high);
     tell(name, three && five);
 }
 
 // The same of one cable, with one word alone.
-pub fn expect_prog_cut(name: &[u8], max: u16, cable: u8, list: Words, w: u32) {
+pub(crate) fn expect_prog_cut(name: &[u8], max: u16, cable: u8, list: Words, w: u32) {
     tell(name, prog_built(max, cable, list, 6, w, w));
 }

@@ -3,7 +3,14 @@ use lists::Words;
 use rules::Profile;
 use steps::HalfWatts;
 
-pub fn profile(max: u16, present: u16, cable: u8, rounding: u8, pps: u8, flags: u8) -> Profile {
+pub(crate) fn profile(
+    max: u16,
+    present: u16,
+    cable: u8,
+    rounding: u8,
+    pps: u8,
+    flags: u8,
+) -> Profile {
     Profile {
         max: HalfWatts(max),
         present: HalfWatts(present),
@@ -15,18 +22,18 @@ pub fn profile(max: u16, present: u16, cable: u8, rounding: u8, pps: u8, flags: 
 }
 
 // A port at its maximum, rounded down.
-pub fn whole(max: u16, cable: u8, pps: u8) -> Profile {
+pub(crate) fn whole(max: u16, cable: u8, pps: u8) -> Profile {
     profile(max, max, cable, 0, pps, 0)
 }
 
 // 01: "A case by M alone uses the default profile."
-pub fn by_maximum(max: u16) -> Profile {
+pub(crate) fn by_maximum(max: u16) -> Profile {
     let d = rules::default_profile(HalfWatts(max));
     d.profile
 }
 
 // Fixed 5 V at 3 A, the 9 V word, and one PPS; a zero is not there.
-pub fn to_9_v(nine: u32, prog: u32) -> Words {
+pub(crate) fn to_9_v(nine: u32, prog: u32) -> Words {
     let count = if prog == 0 { 2 } else { 3 };
     Words {
         words: [0x0001912C, nine, prog, 0, 0, 0, 0],
@@ -35,7 +42,7 @@ pub fn to_9_v(nine: u32, prog: u32) -> Words {
 }
 
 // Fixed 5 and 9 V at 3 A, the 15 V word, AVS, and up to two PPS; a zero is not there.
-pub fn to_15_v(fifteen: u32, avs: u32, first: u32, second: u32) -> Words {
+pub(crate) fn to_15_v(fifteen: u32, avs: u32, first: u32, second: u32) -> Words {
     let count = if second != 0 {
         6
     } else if first != 0 {
@@ -50,7 +57,7 @@ pub fn to_15_v(fifteen: u32, avs: u32, first: u32, second: u32) -> Words {
 }
 
 // Fixed 5, 9 and 15 V at 3 A, the 20 V word, AVS, and up to two PPS; a zero is not there.
-pub fn to_20_v(twenty: u32, avs: u32, first: u32, second: u32) -> Words {
+pub(crate) fn to_20_v(twenty: u32, avs: u32, first: u32, second: u32) -> Words {
     let count = if second != 0 {
         7
     } else if first != 0 {
@@ -73,7 +80,7 @@ pub fn to_20_v(twenty: u32, avs: u32, first: u32, second: u32) -> Words {
 }
 
 // Five words, whatever they are.
-pub fn five_words(a: u32, b: u32, c: u32, d: u32, e: u32) -> Words {
+pub(crate) fn five_words(a: u32, b: u32, c: u32, d: u32, e: u32) -> Words {
     Words {
         words: [a, b, c, d, e, 0, 0],
         count: 5,
@@ -88,7 +95,7 @@ pub struct Currents {
     pub at_20_v: u32,
 }
 
-pub fn currents_of(at_5_v: u32, at_9_v: u32, at_15_v: u32, at_20_v: u32) -> Currents {
+pub(crate) fn currents_of(at_5_v: u32, at_9_v: u32, at_15_v: u32, at_20_v: u32) -> Currents {
     Currents {
         at_5_v,
         at_9_v,
@@ -98,7 +105,7 @@ pub fn currents_of(at_5_v: u32, at_9_v: u32, at_15_v: u32, at_20_v: u32) -> Curr
 }
 
 // The same with another current at a place.
-pub fn changed(c: Currents, place: u8, current: u32) -> Currents {
+pub(crate) fn changed(c: Currents, place: u8, current: u32) -> Currents {
     match place {
         1 => currents_of(current, c.at_9_v, c.at_15_v, c.at_20_v),
         2 => currents_of(c.at_5_v, current, c.at_15_v, c.at_20_v),
@@ -108,7 +115,7 @@ pub fn changed(c: Currents, place: u8, current: u32) -> Currents {
 }
 
 // The fixed words with these currents, and AVS with those of 15 and 20 V.
-pub fn list_at(c: Currents) -> Words {
+pub(crate) fn list_at(c: Currents) -> Words {
     let five = 0x00019000 | c.at_5_v;
     let nine = 0x0002D000 | c.at_9_v;
     let fifteen = 0x0004B000 | c.at_15_v;
@@ -140,7 +147,7 @@ fn one_of(new: bool, w: u32, old: u32) -> u32 {
 }
 
 // The list with another word at a place that may have PPS.
-pub fn with_word(list: Words, place: u8, w: u32) -> Words {
+pub(crate) fn with_word(list: Words, place: u8, w: u32) -> Words {
     let third = one_of(place == 3, w, list.words[2]);
     let fifth = one_of(place == 5, w, list.words[4]);
     let sixth = one_of(place == 6, w, list.words[5]);
@@ -160,10 +167,10 @@ pub fn with_word(list: Words, place: u8, w: u32) -> Words {
 }
 
 // The steps beside a figure.
-pub fn below(n: u32) -> u32 {
+pub(crate) fn below(n: u32) -> u32 {
     if n == 0 { 0 } else { n - 1 }
 }
 
-pub fn above(n: u32) -> u32 {
+pub(crate) fn above(n: u32) -> u32 {
     if n == 0xFFFFFFFF { n } else { n + 1 }
 }

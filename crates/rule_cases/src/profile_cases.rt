@@ -64,7 +64,7 @@ fn order() {
     expect_refused(b"F 64, PPS and P < M: 5 before 6", p, 5);
 }
 
-pub fn run() {
+pub(crate) fn run() {
     defaults();
     powers();
     cables_and_choices();

@@ -90,7 +90,7 @@ fn cut_to_the_cable() {
     expect_prog_cut(b"M 200, 3 A: 20 V and 20 V Prog at 3.00 A", 200, 3, list, w);
 }
 
-pub fn run() {
+pub(crate) fn run() {
     up_to_9_v();
     up_to_15_v();
     up_to_20_v();

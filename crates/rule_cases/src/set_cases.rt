@@ -109,7 +109,7 @@ fn pps_sets() {
     expect_set(b"P < M: no PPS passes, PPS gets 18", p, none, all);
 }
 
-pub fn run() {
+pub(crate) fn run() {
     shapes();
     fixed_sets();
     avs_sets();

@@ -98,7 +98,7 @@ fn reserved_bits() {
     );
 }
 
-pub fn run() {
+pub(crate) fn run() {
     fixed_words();
     battery_and_variable_words();
     pps_and_avs_words();

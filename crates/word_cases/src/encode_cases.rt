@@ -150,7 +150,7 @@ fn avs_fields() {
     );
 }
 
-pub fn run() {
+pub(crate) fn run() {
     words_of_each_kind();
     fixed_fields();
     battery_fields();

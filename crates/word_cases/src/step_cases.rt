@@ -239,7 +239,7 @@ fn roundings() {
     expect_rounded(b"a divisor of 0 gives 0 both ways", 4000, 0, 0, 0);
 }
 
-pub fn run() {
+pub(crate) fn run() {
     five_volts();
     voltages_that_would_lose();
     voltages_that_do_not_fit();

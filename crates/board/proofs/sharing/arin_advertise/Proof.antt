@@ -42,7 +42,7 @@ use Rattle.lists.proofs.Listing.Laws as Answer′
 use Rattle.ports.specs.declared.Row.{Row}
 use Rattle.ports.specs.declared.Ports.{Ports}
 use Rattle.ports.specs.declared.Offer.{Offer}
-use Rattle.ports.specs.Rows.{halfWatts}
+use Rattle.rules.specs.Profiles.{halfWatts}
 use Rattle.ports.specs.Deciding.{advertiseOffer}
 use Rattle.ports.specs.Lending.{lent}
 use Rattle.ports.proofs.Offer as D

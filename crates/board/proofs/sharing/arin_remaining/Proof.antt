@@ -39,7 +39,7 @@ use denote.Exit.{yes}
 use Rattle.ports.specs.declared.Row.{Row}
 use Rattle.ports.specs.declared.Ports.{Ports}
 use Rattle.ports.specs.declared.RemainingPower.{RemainingPower}
-use Rattle.ports.specs.Rows.{halfWatts}
+use Rattle.rules.specs.Profiles.{halfWatts}
 use Rattle.ports.specs.Deciding.{powerLeft}
 use Rattle.ports.specs.Lending.{lent}
 use Rattle.ports.proofs.RemainingPower as Answer

@@ -42,7 +42,7 @@ use Rattle.verdicts.proofs.Verdict.Laws as Answer′
 use Rattle.ports.specs.declared.Row.{Row}
 use Rattle.ports.specs.declared.Ports.{Ports}
 use Rattle.ports.specs.declared.Change.{Change}
-use Rattle.ports.specs.Rows.{halfWatts}
+use Rattle.rules.specs.Profiles.{halfWatts}
 use Rattle.ports.specs.Deciding.{requestChange}
 use Rattle.ports.specs.Lending.{lent}
 use Rattle.ports.proofs.Change as D

@@ -42,7 +42,7 @@ use Rattle.verdicts.proofs.Verdict as Answer
 use Rattle.verdicts.proofs.Verdict.Laws as Answer′
 use Rattle.ports.specs.declared.Row.{Row}
 use Rattle.ports.specs.declared.Ports.{Ports}
-use Rattle.ports.specs.Rows.{halfWatts}
+use Rattle.rules.specs.Profiles.{halfWatts}
 use Rattle.ports.specs.Deciding.{setUpVerdict}
 use Rattle.ports.specs.Lending.{lent}
 use Rattle.ports.proofs.set_up as decide

@@ -7,7 +7,8 @@ use Rattle.steps.specs.declared.HalfWatts.{HalfWatts}
 use Rattle.lists.specs.declared.Listing.{Listing}
 use Rattle.rules.specs.Building.{builtOf}
 use Rattle.ports.specs.declared.Row.{Row}
-use Rattle.ports.specs.Rows.{halfWatts, portRow, presentFor, offered}
+use Rattle.rules.specs.Profiles.{halfWatts}
+use Rattle.ports.specs.Rows.{portRow, presentFor, offered}
 use Rattle.ports.specs.RuleLists.{ruleProfile}
 use Rattle.ports.proofs.Passing.{port-clear, port-low, port-at, eight-rows}
 use Rattle.ports.proofs.Offering.{list-offered}

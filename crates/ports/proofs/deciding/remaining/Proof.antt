@@ -5,7 +5,8 @@ use Prim.Native.Nat.{ℕ, _-_}
 use native.Mathlib.Omega.{arith}
 use Rattle.verdicts.specs.declared.Verdict.{Verdict}
 use Rattle.verdicts.specs.Refusals.{success}
-use Rattle.ports.specs.Rows.{halfWatts, allHeld}
+use Rattle.rules.specs.Profiles.{halfWatts}
+use Rattle.ports.specs.Rows.{allHeld}
 use Rattle.ports.specs.Refusing.{remainingRefusals}
 use Rattle.ports.specs.Deciding.{noPowerLeft, powerLeft}
 use Rattle.ports.proofs.Passing.{remaining-numbered, table-passes, count-high, sum-fits}

@@ -1,0 +1,47 @@
+"""The charger port power rules of docs/01-scope.md ("01"), as a plain model.
+
+Written from the words of 01, in the order of 01, and from nothing else. Every
+function states its sentence of 01. All arithmetic is on whole numbers: fields
+keep the step of their kind, and two figures of different steps meet only as
+millivolts, milliamperes and microwatts (mV times mA), so nothing is lost.
+
+A public call returns Answer(number, place, value); see "Refusal numbers".
+"""
+
+# Every name of the model, file by file, in the order of 01.
+from charger.refusals import Answer, Refused, refuse_if, public_call
+from charger.measure import (
+    MICROWATTS_IN_250_MW, MICROWATTS_IN_HALF_WATT, MICROWATTS_IN_100_W, rounded_down, rounded_up,
+)
+from charger.object_words import (
+    Fixed, Battery, Variable, Pps, Avs, PLACES, KIND_BITS, RESERVED, RESERVED_IN_LATER_FIXED, bits, kind_of, decode,
+    encode, has_field_too_wide, has_reserved_bit,
+)
+from charger.lists import (
+    PLACES_IN_A_LIST, Words, Objects, NO_OBJECT, in_hand, list_of_words, list_of_objects, NO_WORDS, NO_OBJECTS,
+    held_in, refuse_bad_count,
+)
+from charger.shapes import (
+    ORDER_OF_KINDS, is_fixed_at, is_past_voltage_bound, is_over_100_watts, is_out_of_order,
+    differs_from_its_fixed_objects, shaped, shape, read, write,
+)
+from charger.rules import (
+    Profile, DOWN, UP, RAILS, PROG_MAX, PROG_MIN, THREE_AMPERES_IN_10_MA, THREE_AMPERES_IN_50_MA, cable_in_10_ma,
+    cable_in_50_ma, fixed_voltages, has_avs, has_second_avs_current, prog_voltages, fixed_quotient,
+    prog_quotient_down, built_current, built_prog_current, built_objects, refuse_bad_profile, default_profile,
+    build,
+)
+from charger.rule_check import (
+    is_wrong_set, is_fixed_current_allowed, is_prog_current_allowed, is_current_allowed, check,
+)
+from charger.requests import (
+    RESERVED_WITH_FIGURES, RESERVED_WITH_VOLTAGE, request_position, is_mismatch, operating_figure, maximum_figure,
+    requested_voltage, requested_current, refuse_reserved, judge_figures, judge_pps, avs_limit, judge_avs, granted,
+    answer,
+)
+from charger.ports import (
+    Row, LEAST_HELD, MOST_CAPACITY, emptied, is_attached, rule_list, all_held, left_for, is_sound, refuse_bad_table,
+    refuse_unsound, refuse_bad_port, refuse_empty, advertised, request_power, set_up, attach, advertise, request,
+    detach, remaining,
+)
+from charger.listing_program import RECORD_BYTES, listing

@@ -1,0 +1,23 @@
+"""The listing program, caps: a record in, a line out."""
+
+from charger.lists import held_in
+from charger.rules import Profile, build
+
+RECORD_BYTES = 8
+
+
+def listing(data):
+    """What caps prints for its input, line by line: the refusal number, the
+    count, then each word as 8 capital hex digits, one space between fields.
+    M and P are two bytes each, low first; then cable, rounding, PPS wanted, F.
+    A last record of 1 to 7 bytes prints `9 0`."""
+    for start in range(0, len(data), RECORD_BYTES):
+        record = data[start : start + RECORD_BYTES]
+        if len(record) < RECORD_BYTES:
+            yield "9 0"
+            return
+        m = record[0] | record[1] << 8
+        p = record[2] | record[3] << 8
+        built = build(Profile(m, p, *record[4:]))
+        words = ["%08X" % word for word in held_in(built.value)]
+        yield " ".join([str(built.number), str(built.value.count)] + words)

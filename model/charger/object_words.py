@@ -1,0 +1,81 @@
+"""Object words: the five kinds, their fields and their bits."""
+
+from collections import namedtuple
+
+# "A decoded object is one of five kinds with the fields of its own kind."
+Fixed = namedtuple("Fixed", "flags peak volts current")      # 50 mV, 10 mA
+Battery = namedtuple("Battery", "max min power")             # 50 mV, 250 mW
+Variable = namedtuple("Variable", "max min current")         # 50 mV, 10 mA
+Pps = namedtuple("Pps", "limited max min current")           # 100 mV, 50 mA
+Avs = namedtuple("Avs", "peak low high")                     # 10 mA: 9..15 V, 15..20 V
+
+# "Within a kind each field is taken by its bit places" (high bit, low bit).
+PLACES = {
+    Fixed: ((29, 23), (21, 20), (19, 10), (9, 0)),
+    Battery: ((29, 20), (19, 10), (9, 0)),
+    Variable: ((29, 20), (19, 10), (9, 0)),
+    Pps: ((27, 27), (24, 17), (15, 8), (6, 0)),
+    Avs: ((27, 26), (19, 10), (9, 0)),
+}
+
+KIND_BITS = {
+    Fixed: 0b0000 << 28,
+    Battery: 0b0100 << 28,
+    Variable: 0b1000 << 28,
+    Pps: 0b1100 << 28,
+    Avs: 0b1110 << 28,
+}
+
+RESERVED = {
+    Fixed: ((22, 22),),
+    Battery: (),
+    Variable: (),
+    Pps: ((26, 25), (16, 16), (7, 7)),
+    Avs: ((25, 20),),
+}
+# "After the first word bits 29..22 are all reserved."
+RESERVED_IN_LATER_FIXED = ((29, 22),)
+
+
+def bits(word, high, low):
+    return (word >> low) & ((1 << (high - low + 1)) - 1)
+
+
+def kind_of(word):
+    """The kind is read from bits 31..30, and for 11b from bits 29..28.
+    1101b (EPR AVS) and 1111b are not allowed: they have no kind."""
+    top = bits(word, 31, 30)
+    if top == 0b00:
+        return Fixed
+    if top == 0b01:
+        return Battery
+    if top == 0b10:
+        return Variable
+    return {0b00: Pps, 0b10: Avs}.get(bits(word, 29, 28))
+
+
+def decode(word):
+    """The object of a word of an allowed kind, each field by its bit places."""
+    kind = kind_of(word)
+    return kind(*[bits(word, high, low) for high, low in PLACES[kind]])
+
+
+def encode(obj):
+    """The word of an object whose fields all fit their bits."""
+    word = KIND_BITS[type(obj)]
+    for figure, (_, low) in zip(obj, PLACES[type(obj)]):
+        word |= figure << low
+    return word
+
+
+def has_field_too_wide(obj):
+    """7: a field too wide for its bits."""
+    return any(figure >> (high - low + 1) for figure, (high, low) in zip(obj, PLACES[type(obj)]))
+
+
+def has_reserved_bit(kind, word, place):
+    """13: reserved bit set in an object."""
+    reserved = RESERVED[kind]
+    if kind is Fixed and place > 1:
+        reserved = RESERVED_IN_LATER_FIXED
+    return any(bits(word, high, low) for high, low in reserved)

@@ -1,0 +1,159 @@
+"""Ports that share one capacity, a row for each port."""
+
+from collections import namedtuple
+
+from charger.lists import NO_WORDS
+from charger.measure import MICROWATTS_IN_HALF_WATT, rounded_up
+from charger.object_words import Fixed, Pps
+from charger.refusals import public_call, refuse_if
+from charger.requests import granted, operating_figure, requested_current, requested_voltage
+from charger.rules import DOWN, Profile, build
+from charger.shapes import shaped
+
+# "one row for each port: M, PPS wanted, cable (0 when empty), P, held power"
+Row = namedtuple("Row", "m pps cable p held")
+
+LEAST_HELD = 15
+MOST_CAPACITY = 1600
+
+
+def emptied(row):
+    """Empty means cable 0, P 0, held 15."""
+    return row._replace(cable=0, p=0, held=LEAST_HELD)
+
+
+def is_attached(row):
+    return row.cable != 0
+
+
+def rule_list(row):
+    """The list built for its M, P and cable, rounded down, F = 0, with PPS
+    exactly where wanted and P = M."""
+    pps = 1 if row.pps == 1 and row.p == row.m else 0
+    return build(Profile(row.m, row.p, row.cable, DOWN, pps, 0)).value
+
+
+def all_held(rows):
+    return sum(row.held for row in rows)
+
+
+def left_for(capacity, rows, port):
+    """Capacity less the other rows' held."""
+    return capacity - (all_held(rows) - rows[port - 1].held)
+
+
+def is_sound(row):
+    """M is 15..200, PPS is 0 or 1, an empty port is as above, an attached one
+    has cable 3 or 5 and 15 <= held <= P <= M."""
+    if not 15 <= row.m <= 200 or row.pps > 1:
+        return False
+    if is_attached(row):
+        return row.cable in (3, 5) and LEAST_HELD <= row.held <= row.p <= row.m
+    return row == emptied(row)
+
+
+def refuse_bad_table(capacity, rows):
+    """30: row count not 1..8. 32: capacity outside 15 times rows .. 1600."""
+    refuse_if(not 1 <= len(rows) <= 8, 30)
+    refuse_if(not 15 * len(rows) <= capacity <= MOST_CAPACITY, 32)
+
+
+def refuse_unsound(capacity, rows):
+    """30, 32, then 37: the first row at fault, or 0 when only the sum is."""
+    refuse_bad_table(capacity, rows)
+    for place, row in enumerate(rows, 1):
+        refuse_if(not is_sound(row), 37, place)
+    refuse_if(all_held(rows) > capacity, 37)
+
+
+def refuse_bad_port(rows, port):
+    """33: port not 1..rows."""
+    refuse_if(not 1 <= port <= len(rows), 33)
+
+
+def refuse_empty(rows, port):
+    """35: port not attached."""
+    refuse_if(not is_attached(rows[port - 1]), 35, port)
+
+
+def advertised(capacity, rows, port, cable):
+    """Attach and advertise set P to the smaller of M and capacity less the
+    other rows' held, and return the list."""
+    row = rows[port - 1]
+    rows[port - 1] = row._replace(cable=cable, p=min(row.m, left_for(capacity, rows, port)))
+    return rule_list(rows[port - 1])
+
+
+def request_power(row, obj, request):
+    """Voltage (the fixed object's, else the requested) times operating current
+    rounded up to a half watt, for PPS cut to P."""
+    if isinstance(obj, Fixed):
+        microwatts = (obj.volts * 50) * (operating_figure(request) * 10)
+    elif isinstance(obj, Pps):
+        microwatts = (requested_voltage(request) * 20) * (requested_current(request) * 50)
+    else:
+        microwatts = (requested_voltage(request) * 25) * (requested_current(request) * 50)
+    power = rounded_up(microwatts, MICROWATTS_IN_HALF_WATT)
+    return min(power, row.p) if isinstance(obj, Pps) else power
+
+
+@public_call(None)
+def set_up(capacity, rows):
+    """Set-up takes M and PPS wanted from the rows as lent, empties all ports.
+    Row by row 31, 4."""
+    refuse_bad_table(capacity, rows)
+    for place, row in enumerate(rows, 1):
+        refuse_if(not 15 <= row.m <= 200, 31, place)
+        refuse_if(row.pps > 1, 4, place)
+    rows[:] = [emptied(row) for row in rows]
+
+
+@public_call(NO_WORDS)
+def attach(capacity, rows, port, cable):
+    """37, 33, 3, 34."""
+    refuse_unsound(capacity, rows)
+    refuse_bad_port(rows, port)
+    refuse_if(cable not in (3, 5), 3)
+    refuse_if(is_attached(rows[port - 1]), 34, port)
+    return advertised(capacity, rows, port, cable)
+
+
+@public_call(NO_WORDS)
+def advertise(capacity, rows, port):
+    """37, 33, 35."""
+    refuse_unsound(capacity, rows)
+    refuse_bad_port(rows, port)
+    refuse_empty(rows, port)
+    return advertised(capacity, rows, port, rows[port - 1].cable)
+
+
+@public_call(None)
+def request(capacity, rows, port, word):
+    """37, 33, 35, the request's own, 36. A request is judged on the list of
+    its row's stored P. An accepted request sets held to the larger of 15 and
+    its power. 36 exactly when the new held would exceed capacity less the
+    other rows' held."""
+    refuse_unsound(capacity, rows)
+    refuse_bad_port(rows, port)
+    refuse_empty(rows, port)
+    row = rows[port - 1]
+    obj = granted(shaped(rule_list(row)), word)
+    held = max(LEAST_HELD, request_power(row, obj, word))
+    refuse_if(held > left_for(capacity, rows, port), 36, port)
+    rows[port - 1] = row._replace(held=held)
+
+
+@public_call(None)
+def detach(capacity, rows, port):
+    """Detach empties. 37, 33, 35."""
+    refuse_unsound(capacity, rows)
+    refuse_bad_port(rows, port)
+    refuse_empty(rows, port)
+    rows[port - 1] = emptied(rows[port - 1])
+
+
+@public_call(0)
+def remaining(capacity, rows):
+    """Remaining power is capacity less all held."""
+    refuse_unsound(capacity, rows)
+    return capacity - all_held(rows)

@@ -1,0 +1,74 @@
+"""Rule check: whether a list is one that the power rules allow."""
+
+from charger.measure import rounded_down, rounded_up
+from charger.object_words import Avs, Battery, Fixed, Pps, Variable
+from charger.refusals import public_call, refuse_if
+from charger.rules import (
+    PROG_MAX, PROG_MIN, THREE_AMPERES_IN_10_MA, built_prog_current, cable_in_10_ma, cable_in_50_ma, fixed_quotient,
+    fixed_voltages, has_avs, has_second_avs_current, prog_quotient_down, prog_voltages, refuse_bad_profile,
+)
+from charger.shapes import shaped
+
+
+def is_wrong_set(profile, objects):
+    """18: it has exactly these fixed voltages and AVS, no battery or variable
+    object, and no PPS or exactly that PPS set with those ranges; no PPS where
+    P < M; a second AVS current that is zero exactly when M <= 90."""
+    voltages = [obj.volts for obj in objects if isinstance(obj, Fixed)]
+    avs = [obj for obj in objects if isinstance(obj, Avs)]
+    ranges = [(obj.min, obj.max) for obj in objects if isinstance(obj, Pps)]
+    prog_ranges = [(PROG_MIN, PROG_MAX[volts]) for volts in prog_voltages(profile.m)]
+    return (
+        voltages != [volts * 20 for volts in fixed_voltages(profile.m)]
+        or bool(avs) != has_avs(profile.m)
+        or any((obj.high != 0) != has_second_avs_current(profile.m) for obj in avs)
+        or any(isinstance(obj, (Battery, Variable)) for obj in objects)
+        or ranges not in ([], prog_ranges)
+        or (ranges != [] and profile.p < profile.m)
+    )
+
+
+def is_fixed_current_allowed(profile, volts, current):
+    """Allowed at 5, 9, 15 V: if P exceeds 6 times the volts, from 3 A to the
+    smaller of cable and the quotient rounded up; else the quotient rounded
+    either way. At 20 V: either rounding, cut to the cable."""
+    down = fixed_quotient(profile, volts, rounded_down)
+    up = fixed_quotient(profile, volts, rounded_up)
+    cable = cable_in_10_ma(profile)
+    if volts == 20:
+        return current in (min(down, cable), min(up, cable))
+    if profile.p > 6 * volts:
+        return THREE_AMPERES_IN_10_MA <= current <= min(cable, up)
+    return current in (down, up)
+
+
+def is_prog_current_allowed(profile, volts, current):
+    """PPS: the built figure, except that 9 V Prog with 54 < M < 90 and 15 V
+    Prog with 90 < M < 120 may go up to the smaller of cable and the
+    rounded-down quotient."""
+    least = most = built_prog_current(profile, volts)
+    if (volts == 9 and 54 < profile.m < 90) or (volts == 15 and 90 < profile.m < 120):
+        most = min(cable_in_50_ma(profile), prog_quotient_down(profile.m, volts))
+    return least <= current <= most
+
+
+def is_current_allowed(profile, obj):
+    """19, of an object of a right set. AVS currents are not looked at: 17
+    already ties them to the fixed ones."""
+    if isinstance(obj, Fixed):
+        return is_fixed_current_allowed(profile, obj.volts // 20, obj.current)
+    if isinstance(obj, Pps):
+        (volts,) = [volts for volts in PROG_MAX if PROG_MAX[volts] == obj.max]
+        return is_prog_current_allowed(profile, volts, obj.current)
+    return True
+
+
+@public_call(None)
+def check(profile, words):
+    """The rule check: profile 1 to 5, the shape, 18 over the whole list, then
+    19 at the first such word."""
+    refuse_bad_profile(profile)
+    objects = shaped(words)
+    refuse_if(is_wrong_set(profile, objects), 18)
+    for place, obj in enumerate(objects, 1):
+        refuse_if(not is_current_allowed(profile, obj), 19, place)

@@ -1,0 +1,143 @@
+"""The cases of 01: those checked by hand, and what the contracts settle."""
+
+import charger
+from charger import Avs, Battery, Fixed, Pps, Profile, Row, Words
+from tests.expecting import expect
+from tests.handling import (
+    avs_built, figures, fixed_currents, list_of, objects_built, of_default, verdict, volts, words_built,
+)
+
+# ------------------------------------------------- 01, "Checked by hand"
+
+L = Profile(160, 130, 5, 0, 0, 0)
+
+
+def test_checked_by_hand():
+    listing = "0 6 0001912C 0002D12C 0004B0F0 E003C000 C8DC323C C9403230"
+    expect("the listing", list(charger.listing(bytes.fromhex("4800480003000100"))), [listing])
+    expect("empty input", list(charger.listing(b"")), [])
+    for short in range(1, 8):
+        expect("a short record", list(charger.listing(b"\x48" * short)), ["9 0"])
+    expect("short after whole", list(charger.listing(bytes.fromhex("4800480003000100") + b"\0")), [listing, "9 0"])
+
+    up = Profile(160, 80, 5, 1, 0, 0)
+    expect("M 160, P 80, up", fixed_currents(up), [300, 300, 267, 200])
+    expect("its AVS word", words_built(up)[4], 0xE0042CC8)
+    expect("M = P = 80", fixed_currents(of_default(80)), [300, 300, 266])
+    expect("its AVS", avs_built(of_default(80)), [(266, 0)])
+    expect("L", fixed_currents(L), [300, 300, 300, 325])
+    expect("AVS of L", avs_built(L), [(300, 325)])
+    expect("M = 30", fixed_currents(of_default(30)), [300])
+    expect("M = 30, one word", len(words_built(of_default(30))), 1)
+    expect("M = 31", fixed_currents(of_default(31)), [300, 172])
+    expect("M = 54", [obj.volts for obj in objects_built(of_default(54))], [100, 180])
+    expect("M = 55", fixed_currents(of_default(55))[2], 183)
+    expect("no AVS at M = 54", avs_built(of_default(54)), [])
+    expect("AVS from M = 55", avs_built(of_default(55)), [(183, 0)])
+    expect("M = 90", [obj.volts for obj in objects_built(of_default(90)) if isinstance(obj, Fixed)], [100, 180, 300])
+    expect("M = 91", fixed_currents(of_default(91))[3], 227)
+
+    on_l = lambda request: verdict(charger.answer(charger.build(L).value, request))
+    expect("15.0 V at 3.25 A", on_l(volts(5, 600, 65)), (0, 0))
+    expect("15.0 V at 3.30 A", on_l(volts(5, 600, 66)), (24, 0))
+    expect("14.9 V at 3.25 A", on_l(volts(5, 596, 65)), (24, 0))
+    expect("14.9 V at 3.00 A", on_l(volts(5, 596, 60)), (0, 0))
+    expect("voltage figure 602", on_l(volts(5, 602, 10)), (23, 0))
+    expect("8.9 V", on_l(volts(5, 356, 10)), (22, 0))
+    expect("position 6", on_l(volts(6, 600, 10)), (20, 0))
+
+
+def test_shared_case():
+    rows = [Row(130, 0, 0, 0, 0), Row(130, 0, 0, 0, 0)]
+    expect("set up", verdict(charger.set_up(200, rows)), (0, 0))
+    expect("empty rows", rows, [Row(130, 0, 0, 0, 15)] * 2)
+    expect("port 1 attaches", verdict(charger.attach(200, rows, 1, 5)), (0, 0))
+    expect("with P 130", rows[0], Row(130, 0, 5, 130, 15))
+    expect("20 V at 3.25 A", verdict(charger.request(200, rows, 1, figures(4, 325))), (0, 0))
+    expect("held 130", rows[0].held, 130)
+    given = charger.attach(200, rows, 2, 5).value
+    expect("port 2 has P 70", rows[1], Row(130, 0, 5, 70, 15))
+    expect("its currents", [word & 1023 for word in given.places[:4]], [300, 300, 233, 175])
+    expect("9 V at 2 A", verdict(charger.request(200, rows, 1, figures(2, 200))), (0, 0))
+    expect("held 36", rows[0].held, 36)
+    expect("advertise again", verdict(charger.advertise(200, rows, 2)), (0, 0))
+    expect("P 130", rows[1].p, 130)
+    expect("port 2 takes 20 V", verdict(charger.request(200, rows, 2, figures(4, 325))), (0, 0))
+    expect("port 1 asks 20 V", verdict(charger.request(200, rows, 1, figures(4, 325))), (36, 1))
+    expect("port 1 asks 9 V at 3 A", verdict(charger.request(200, rows, 1, figures(2, 300))), (0, 0))
+    expect("held 54", rows, [Row(130, 0, 5, 130, 54), Row(130, 0, 5, 130, 130)])
+    expect("remaining", charger.remaining(200, rows), (0, 0, 16))
+
+
+# ---------------------------------------------- 01, "What the contracts settle"
+
+
+def test_orders():
+    """Two faults at once, and the edges of each refusal."""
+    check = lambda *figures: verdict(charger.check(Profile(*figures), charger.build(L).value))
+    build = lambda *figures: verdict(charger.build(Profile(*figures)))
+    for call in (check, build):
+        expect("1 first", call(0, 0, 4, 2, 2, 64), (1, 0))
+        expect("2 next", call(200, 201, 4, 2, 2, 64), (2, 0))
+        expect("3 next", call(200, 200, 4, 2, 2, 64), (3, 0))
+        expect("4 next", call(200, 200, 5, 2, 0, 64), (4, 0))
+        expect("4 for PPS too", call(200, 200, 5, 0, 2, 64), (4, 0))
+        expect("5 next", call(200, 199, 5, 0, 1, 64), (5, 0))
+    expect("6, builder only", build(160, 130, 5, 0, 1, 0), (6, 0))
+    expect("the rule check knows no 6", check(160, 130, 5, 0, 1, 0), (0, 0))
+    shape = lambda count, *words: verdict(charger.shape(Words(count, words + (0xFFFFFFFF,) * (7 - len(words)))))
+    first = 0x0001912C
+    expect("count 0", shape(0), (10, 0))
+    expect("count 8", shape(8), (10, 0))
+    expect("places past the count are not read", shape(1, first), (0, 0))
+    expect("11 before 12", shape(1, 0xF0000000), (11, 1))
+    expect("12", shape(2, first, 0xD0000000), (12, 2))
+    expect("13 before 15", shape(2, first, 1 << 22 | 401 << 10), (13, 2))
+    expect("15 before 16", shape(2, first, 401 << 10 | 1023), (15, 2))
+    expect("16 before 14", shape(3, first, 400 << 10, 300 << 10 | 1000), (16, 3))
+    expect("14 before a later 12", shape(4, first, 400 << 10, 300 << 10, 0xD0000000), (14, 3))
+    expect("12 before 17", shape(3, first, 0xE0000400, 0xD0000000), (12, 3))
+    expect("17 at the AVS word", shape(3, first, 0xE0000400, 0xC8DC323C), (17, 2))
+    expect("zero AVS needs 15 V too", shape(2, first, 0xE0000000), (17, 2))
+    wide = charger.list_of_objects([Battery(0, 0, 0), Pps(0, 0, 0, 128)])
+    expect("7 before 11", verdict(charger.write(wide)), (7, 2))
+    expect("10 before 7", verdict(charger.write(charger.Objects(8, wide.places))), (10, 0))
+    later_flags = charger.list_of_objects([Fixed(0, 0, 100, 0), Fixed(1, 0, 180, 0)])
+    expect("flags after the first word", verdict(charger.write(later_flags)), (13, 2))
+    sums = [Row(100, 0, 5, 100, 100), Row(100, 0, 5, 100, 100)]
+    expect("only the sum", charger.remaining(199, sums), (37, 0, 0))
+    expect("the sum fits", charger.remaining(200, sums), (0, 0, 0))
+    expect("a row and the sum", charger.remaining(199, [sums[0], Row(100, 0, 4, 100, 100)]), (37, 2, 0))
+    expect("nine rows", charger.remaining(0, sums * 4 + sums[:1]), (30, 0, 0))
+    lent = [Row(100, 2, 9, 9, 9), Row(14, 0, 0, 0, 0)]
+    expect("row by row 31, 4", verdict(charger.set_up(30, lent)), (4, 1))
+    expect("rows are not written", lent, [Row(100, 2, 9, 9, 9), Row(14, 0, 0, 0, 0)])
+
+
+def test_accepted_currents():
+    """The rule check against the sentence, by trying every current."""
+    tried = ((200, 200, 5), (200, 200, 3), (160, 130, 5), (160, 91, 5), (160, 90, 3))
+    tried += ((91, 31, 3), (90, 30, 5), (130, 54, 5), (130, 55, 5), (100, 1, 3))
+    for m, p, cable in tried:
+        profile = Profile(m, p, cable, 0, 0, 0)
+        good = objects_built(profile)
+        for at, obj in enumerate(good):
+            if not isinstance(obj, Fixed):
+                continue
+            allowed = []
+            for current in range(1024):
+                offer = list(good)
+                offer[at] = obj._replace(current=current)
+                offer = [o._replace(low=current) if isinstance(o, Avs) and obj.volts == 300 else o for o in offer]
+                offer = [o._replace(high=current) if isinstance(o, Avs) and obj.volts == 400 else o for o in offer]
+                if charger.check(profile, list_of(offer)).number == 0:
+                    allowed.append(current)
+            v = obj.volts // 20
+            either = sorted({n for n in range(2001) if abs(n * v - 50 * p) < v})
+            if v == 20:
+                want = sorted({min(n, cable * 100) for n in either})
+            elif p > 6 * v:
+                want = list(range(300, min(cable * 100, max(either)) + 1))
+            else:
+                want = either
+            expect("currents at %d V for %r" % (v, profile), allowed, want)
