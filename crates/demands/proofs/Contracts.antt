@@ -39,6 +39,9 @@ use Rattle.objects.specs.declared.Encoded.{Encoded}
 use Rattle.objects.proofs.decode.Reads as decode
 use Rattle.objects.proofs.reserved_bit_set.Reads as reserved-bit-set
 use Rattle.objects.proofs.encode.Reads as encode
+use Rattle.objects.proofs.fixed_word.Reads as fixed-word
+use Rattle.objects.proofs.pps_word.Reads as pps-word
+use Rattle.objects.proofs.avs_word.Reads as avs-word
 use Rattle.lists.specs.declared.Words.{Words}
 use Rattle.lists.specs.declared.Objects.{Objects}
 use Rattle.lists.specs.declared.Reading.{Reading}
@@ -129,6 +132,17 @@ ReservedAnswers o first w r = reserved-bit-set.Post tt (o, (first, (w, tt))) r (
 
 abbrev pub EncodeAnswers : Object → Encoded → Type 0
 EncodeAnswers o r = encode.Post tt (o, tt) r (o, tt)
+
+abbrev pub FixedWordAnswers : ℕ → ℕ → Mv50 → Ma10 → Encoded → Type 0
+FixedWordAnswers flags peak volts current r =
+    fixed-word.Post tt (flags, (peak, (volts, (current, tt)))) r (flags, (peak, (volts, (current, tt))))
+
+abbrev pub PpsWordAnswers : ℕ → Mv100 → Mv100 → Ma50 → Encoded → Type 0
+PpsWordAnswers limited max min current r =
+    pps-word.Post tt (limited, (max, (min, (current, tt)))) r (limited, (max, (min, (current, tt))))
+
+abbrev pub AvsWordAnswers : ℕ → Ma10 → Ma10 → Encoded → Type 0
+AvsWordAnswers peak low high r = avs-word.Post tt (peak, (low, (high, tt))) r (peak, (low, (high, tt)))
 
 -- ---- lists
 

@@ -3,10 +3,13 @@
 use mathlib.Core.Path.{_≡_, sym, _∙_}
 use mathlib.Core.Bool.{Bool}
 use Prim.Native.Nat.{ℕ}
+use Rattle.steps.specs.declared.Mv50.{Mv50}
+use Rattle.steps.specs.declared.Mv100.{Mv100}
+use Rattle.steps.specs.declared.Ma10.{Ma10}
 use Rattle.objects.specs.declared.Object.{Object}
 use Rattle.demands.proofs.Contracts.{RoundDownAnswers, RoundUpAnswers}
 use Rattle.demands.proofs.Contracts.{Mv20ToMv25Answers, Mv20ToMv50Answers, Mv20ToMv100Answers, Mv25ToMv20Answers, Mv25ToMv50Answers, Mv25ToMv100Answers, Mv50ToMv20Answers, Mv50ToMv25Answers, Mv50ToMv100Answers, Mv100ToMv20Answers, Mv100ToMv25Answers, Mv100ToMv50Answers, Ma10ToMa50Answers, Ma50ToMa10Answers}
-use Rattle.demands.proofs.Contracts.{DecodeAnswers, ReservedAnswers, EncodeAnswers}
+use Rattle.demands.proofs.Contracts.{DecodeAnswers, ReservedAnswers, EncodeAnswers, FixedWordAnswers, PpsWordAnswers, AvsWordAnswers}
 use Rattle.demands.proofs.Contracts.{ShapeAnswers, ReadAnswers, WriteAnswers}
 use Rattle.rules.specs.declared.Profile.{Profile}
 use Rattle.demands.proofs.Contracts.{DefaultAnswers, BuildAnswers, CheckAnswers}
@@ -88,6 +91,15 @@ reserved-bit-set-settles o first w r s e f = only e f
 
 pub encode-settles : Settled EncodeAnswers
 encode-settles o r s e f = only e f
+
+pub fixed-word-settles : (flags peak : ℕ) (volts : Mv50) → Settled (FixedWordAnswers flags peak volts)
+fixed-word-settles flags peak volts current r s e f = only e f
+
+pub pps-word-settles : (limited : ℕ) (max min : Mv100) → Settled (PpsWordAnswers limited max min)
+pps-word-settles limited max min current r s e f = only e f
+
+pub avs-word-settles : (peak : ℕ) (low : Ma10) → Settled (AvsWordAnswers peak low)
+avs-word-settles peak low high r s e f = only e f
 
 -- ---- lists
 

@@ -1,6 +1,6 @@
 // From an object to a word, put together from the lowest field up. A field too wide for its bits is refused, never cut.
 ghost use Rattle.objects.specs.Promises.{Encodes};
-ghost use Rattle.objects.specs.Encode.{wordOf, encodeOf, threeFields};
+ghost use Rattle.objects.specs.Encode.{wordOf, threeFields};
 ghost use mathlib.Core.Path.{_≡_};
 ghost use Prim.Native.Nat.{_<_};
 use crate::Encoded;
@@ -10,8 +10,9 @@ use steps::Ma50;
 use steps::Mv50;
 use steps::Mv100;
 
-fn fixed_word(flags: u8, peak: u8, volts: Mv50, current: Ma10) -> Encoded
-    ensures { λ r. ⌜ r ≡ encodeOf (Object.Fixed flags peak volts current) ⌝ }
+// The word of a fixed object; `encode` is the same for an object of any kind.
+pub fn fixed_word(flags: u8, peak: u8, volts: Mv50, current: Ma10) -> Encoded
+    ensures { λ r. ⌜ Encodes (Object.Fixed flags peak volts current) r ⌝ }
 {
     if 1024 <= current.0 {
         return Encoded::TooWide;
@@ -50,8 +51,9 @@ fn three_word(kind: u32, max: u16, min: u16, figure: u16) -> Encoded
     Encoded::Word((figure as u32) | ((min as u32) << 10) | ((max as u32) << 20) | (kind << 30))
 }
 
-fn pps_word(limited: u8, max: Mv100, min: Mv100, current: Ma50) -> Encoded
-    ensures { λ r. ⌜ r ≡ encodeOf (Object.Pps limited max min current) ⌝ }
+// The word of a PPS object.
+pub fn pps_word(limited: u8, max: Mv100, min: Mv100, current: Ma50) -> Encoded
+    ensures { λ r. ⌜ Encodes (Object.Pps limited max min current) r ⌝ }
 {
     if 128 <= current.0 {
         return Encoded::TooWide;
@@ -74,8 +76,9 @@ fn pps_word(limited: u8, max: Mv100, min: Mv100, current: Ma50) -> Encoded
     )
 }
 
-fn avs_word(peak: u8, low: Ma10, high: Ma10) -> Encoded
-    ensures { λ r. ⌜ r ≡ encodeOf (Object.Avs peak low high) ⌝ }
+// The word of an SPR AVS object.
+pub fn avs_word(peak: u8, low: Ma10, high: Ma10) -> Encoded
+    ensures { λ r. ⌜ Encodes (Object.Avs peak low high) r ⌝ }
 {
     if 1024 <= high.0 {
         return Encoded::TooWide;

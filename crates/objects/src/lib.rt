@@ -10,7 +10,10 @@ mod encoding;
 
 pub use decoding::decode;
 pub use decoding::reserved_bit_set;
+pub use encoding::avs_word;
 pub use encoding::encode;
+pub use encoding::fixed_word;
+pub use encoding::pps_word;
 
 // One of five kinds, with the fields of its own kind. `Fixed` stays the first: an empty place is a fixed object with
 // all fields zero.

@@ -13,11 +13,10 @@ use Rattle.verdicts.proofs.First.{NoneApply, hit, onward, onto, all-missed, ref
 use Rattle.lists.specs.declared.Listing.{Listing}
 use Rattle.lists.specs.Writing.{noWords, writeRefused}
 use Rattle.rules.specs.declared.Profile.{Profile}
-use Rattle.rules.specs.declared.Plan.{Plan}
 use Rattle.rules.specs.Profiles.{ppsBelowMaximum, profileRefusals, buildRefusals}
-use Rattle.rules.specs.Plans.{baseSlots, slots, planOf}
+use Rattle.rules.specs.Plans.{baseSlots, slots}
 use Rattle.rules.specs.Building.{builtCount, builtWords, builtOf}
-use Rattle.rules.proofs.PlanFacts.{at-most-seven, base-within, count-is, base-is}
+use Rattle.rules.proofs.PlanFacts.{at-most-seven, base-within}
 
 abbrev pub builtAs : Profile → Listing
 builtAs p = record { verdict = success; list = builtWords p }
@@ -59,9 +58,6 @@ module _ (p : Profile) where
       (refused-so writeRefused (buildRefusals p) (λ z. f (build-verdict ∙ passes (buildRefusals p) build-numbered z)) (builtAs p))
 
   -- ---- the count
-
-  pub count-by-plan : (plan : Plan) → plan ≡ planOf (p .max .0) → cond (eqb (p .pps) 1) (plan .count) (plan .base) ≡ builtCount p
-  count-by-plan plan e = ap₂ (cond (eqb (p .pps) 1)) (count-is (p .max .0) plan e) (base-is (p .max .0) plan e)
 
   pub built-count-high : p .max .0 ≤ 200 → builtCount p ≤ 7
   built-count-high h = go (eqb (p .pps) 1) where

@@ -1,9 +1,9 @@
 pub mod Tests
-pub mod Pushing
 pub mod OtherKinds
 pub mod Exceeding
 pub mod ProfileCases
 pub mod PlanFacts
+pub mod RangeFacts
 pub mod Allowed
 pub mod Builds
 pub mod Checks

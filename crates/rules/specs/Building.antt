@@ -43,8 +43,11 @@ objectFor p first (Avs past15V) =
 objectFor p first (Prog volts top) =
     object.Pps 1 (record { 0 = top }) (record { 0 = 50 }) (record { 0 = progCurrent p volts })
 
+abbrev pub slotWord : Profile → Bool → Slot → ℕ
+slotWord p first s = wordIn (encodeOf (objectFor p first s))
+
 abbrev pub wordFor : Profile → ℕ → ℕ
-wordFor p k = wordIn (encodeOf (objectFor p (eqb k 0) (getD (slots (p .max .0)) k Nothing)))
+wordFor p k = slotWord p (eqb k 0) (getD (slots (p .max .0)) k Nothing)
 
 -- "PPS, only when wanted"
 abbrev pub builtCount : Profile → ℕ

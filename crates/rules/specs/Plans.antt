@@ -10,7 +10,6 @@ use Rattle.rules.specs.declared.Slot.{Slot}
 use Rattle.rules.specs.declared.Slot.the-variants.{Nothing, Fixed, Avs, Prog}
 use Rattle.rules.specs.declared.Planned.{Planned}
 use Rattle.rules.specs.declared.Plan.{Plan}
-use Rattle.rules.specs.declared.planning.Slots.{Slots}
 
 -- "a fixed table of four rows: voltage and the M it must exceed"
 abbrev pub row : ℕ → ℕ → Rail
@@ -53,9 +52,6 @@ plannedAll (s ∷ ss) = planned s ∷ plannedAll ss
 
 abbrev pub eight : List Slot → List Planned
 eight ss = plannedAll ss ++ replicate (8 - length ss) (planned Nothing)
-
-abbrev pub held : List Slot → Slots
-held ss = record { places = eight ss; count = length ss }
 
 unfoldable pub planOf : ℕ → Plan
 planOf m = record { places = eight (slots m); base = length (baseSlots m); count = length (slots m) }

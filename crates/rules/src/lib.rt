@@ -44,6 +44,17 @@ pub enum Slot {
     Prog { volts: u16, top: u16 },
 }
 
+// The ranges of port maximum in which every port has the same set of objects. Their ends are the thresholds of the table, and 45 W and
+// 60 W, where 9 V Prog and 15 V Prog end.
+pub enum Range {
+    To15W,
+    To27W,
+    Below45W,
+    At45W,
+    Below60W,
+    From60W,
+}
+
 // One place of a plan.
 pub struct Planned {
     pub slot: Slot,

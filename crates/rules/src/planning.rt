@@ -2,19 +2,19 @@
 // power left keeps its voltages.
 ghost use mathlib.Core.Path.{_≡_};
 ghost use mathlib.Core.Bool.{_&&_};
-ghost use mathlib.Core.List.{List, _++_};
-ghost use Prim.Native.Nat.{_<_};
+ghost use Prim.Native.Nat.{_≤_, _<_};
 ghost use lib.Dec.{ltb};
-ghost use lib.ListN.{length};
-ghost use Rattle.rules.specs.declared.Slot.{Slot};
-ghost use Rattle.rules.specs.Plans.{rails, slotIf, fixedSlots, held, planOf};
+ghost use lib.ListN.{getD};
+ghost use Rattle.rules.specs.Plans.{row, rails, slots, baseSlots, planOf, planned};
+ghost use Rattle.rules.specs.Ranges.{baseIn, fullIn, planIn};
 use crate::Plan;
 use crate::Planned;
 use crate::Rail;
+use crate::Range;
 use crate::Slot;
 
 // 01: "a fixed table of four rows: voltage and the M it must exceed".
-const RAILS: [Rail; 4] = [
+pub(crate) const RAILS: [Rail; 4] = [
     Rail { volts: 5, above: 0 },
     Rail {
         volts: 9,
@@ -34,29 +34,23 @@ const NOTHING: Planned = Planned {
     slot: Slot::Nothing,
 };
 
-// Slots so far.
-pub struct Slots {
-    pub places: [Planned; 8],
-    pub count: u8,
-}
+const PROG_9_V: Planned = Planned {
+    slot: Slot::Prog { volts: 9, top: 110 },
+};
 
-// One slot more, if it is there.
-fn push_if(list: Slots, there: bool, slot: Slot) -> Slots
-    ensures { λ r. ⌜ ((ss : List Slot) → length ss < 8 → list ≡ held ss → r ≡ held (ss ++ slotIf there slot)) ⌝ }
-{
-    let at = list.count as usize;
-    if there {
-        if at < 8 {
-            let mut places = list.places;
-            places[at] = Planned { slot };
-            return Slots {
-                places,
-                count: list.count + 1,
-            };
-        }
-    }
-    list
-}
+const PROG_15_V: Planned = Planned {
+    slot: Slot::Prog {
+        volts: 15,
+        top: 160,
+    },
+};
+
+const PROG_20_V: Planned = Planned {
+    slot: Slot::Prog {
+        volts: 20,
+        top: 210,
+    },
+};
 
 pub fn between(low: u16, n: u16, high: u16) -> bool
     ensures { λ r. ⌜ r ≡ (ltb low n && ltb n high) ⌝ }
@@ -64,52 +58,146 @@ pub fn between(low: u16, n: u16, high: u16) -> bool
     if low < n { n < high } else { false }
 }
 
-// The rows of the table that the port maximum exceeds.
-fn fixed_part(max: u16) -> Slots
-    ensures { λ r. ⌜ r ≡ held (fixedSlots max rails) ⌝ }
+// The one place where the port maximum is looked at.
+pub(crate) fn range_of(max: u16) -> Range
+    requires { ⌜ 1 ≤ max ⌝ }
+    ensures { λ r. ⌜ (baseSlots max ≡ baseIn r) × (slots max ≡ fullIn r) ⌝ }
 {
-    let places = [NOTHING; 8];
-    let mut list = Slots { places, count: 0 };
-    let mut i: usize = 0;
-    while i < 4 {
-        let rail = RAILS[i];
-        list = push_if(list, rail.above < max, Slot::Fixed { volts: rail.volts });
-        i += 1;
+    let rail_9_v = RAILS[1];
+    if max <= rail_9_v.above {
+        return Range::To15W;
     }
-    list
+    let rail_15_v = RAILS[2];
+    if max <= rail_15_v.above {
+        return Range::To27W;
+    }
+    if max < 90 {
+        return Range::Below45W;
+    }
+    let rail_20_v = RAILS[3];
+    if max <= rail_20_v.above {
+        return Range::At45W;
+    }
+    if max < 120 {
+        return Range::Below60W;
+    }
+    Range::From60W
+}
+
+fn rail(at: usize) -> Planned
+    requires { ⌜ at < 4 ⌝ }
+    ensures { λ r. ⌜ r ≡ planned (Slot.Fixed (getD rails at (row 0 0) .volts)) ⌝ }
+{
+    let row = RAILS[at];
+    Planned {
+        slot: Slot::Fixed { volts: row.volts },
+    }
+}
+
+fn avs(past_15_v: bool) -> Planned
+    ensures { λ r. ⌜ r ≡ planned (Slot.Avs past_15_v) ⌝ }
+{
+    Planned {
+        slot: Slot::Avs { past_15_v },
+    }
+}
+
+// The plan of each range.
+fn plan_in(range: Range) -> Plan
+    ensures { λ r. ⌜ r ≡ planIn range ⌝ }
+{
+    match range {
+        Range::To15W => Plan {
+            places: [
+                rail(0),
+                NOTHING,
+                NOTHING,
+                NOTHING,
+                NOTHING,
+                NOTHING,
+                NOTHING,
+                NOTHING,
+            ],
+            base: 1,
+            count: 1,
+        },
+        Range::To27W => Plan {
+            places: [
+                rail(0),
+                rail(1),
+                PROG_9_V,
+                NOTHING,
+                NOTHING,
+                NOTHING,
+                NOTHING,
+                NOTHING,
+            ],
+            base: 2,
+            count: 3,
+        },
+        Range::Below45W => Plan {
+            places: [
+                rail(0),
+                rail(1),
+                rail(2),
+                avs(false),
+                PROG_9_V,
+                PROG_15_V,
+                NOTHING,
+                NOTHING,
+            ],
+            base: 4,
+            count: 6,
+        },
+        Range::At45W => Plan {
+            places: [
+                rail(0),
+                rail(1),
+                rail(2),
+                avs(false),
+                PROG_15_V,
+                NOTHING,
+                NOTHING,
+                NOTHING,
+            ],
+            base: 4,
+            count: 5,
+        },
+        Range::Below60W => Plan {
+            places: [
+                rail(0),
+                rail(1),
+                rail(2),
+                rail(3),
+                avs(true),
+                PROG_15_V,
+                PROG_20_V,
+                NOTHING,
+            ],
+            base: 5,
+            count: 7,
+        },
+        Range::From60W => Plan {
+            places: [
+                rail(0),
+                rail(1),
+                rail(2),
+                rail(3),
+                avs(true),
+                PROG_20_V,
+                NOTHING,
+                NOTHING,
+            ],
+            base: 5,
+            count: 6,
+        },
+    }
 }
 
 pub fn plan(max: u16) -> Plan
+    requires { ⌜ 1 ≤ max ⌝ }
     ensures { λ r. ⌜ r ≡ planOf max ⌝ }
 {
-    let fixed = fixed_part(max);
-    let past_15_v = 90 < max;
-    let base = push_if(fixed, 54 < max, Slot::Avs { past_15_v });
-    let prog9 = push_if(
-        base,
-        between(30, max, 90),
-        Slot::Prog { volts: 9, top: 110 },
-    );
-    let prog15 = push_if(
-        prog9,
-        between(54, max, 120),
-        Slot::Prog {
-            volts: 15,
-            top: 160,
-        },
-    );
-    let full = push_if(
-        prog15,
-        90 < max,
-        Slot::Prog {
-            volts: 20,
-            top: 210,
-        },
-    );
-    let places = full.places;
-    Plan {
-        places,
-        base: base.count,
-        count: full.count,
-    }
+    let range = range_of(max);
+    plan_in(range)
 }

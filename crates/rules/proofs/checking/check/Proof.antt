@@ -8,7 +8,7 @@ use Rattle.verdicts.proofs.First.{NoneApply, none-applied}
 use Rattle.lists.specs.Shape.{shapeRefusals}
 use Rattle.lists.proofs.Shapes.{none-of, count-high}
 use Rattle.rules.specs.Profiles.{profileRefusals}
-use Rattle.rules.proofs.ProfileCases.{profile-numbered, max-high}
+use Rattle.rules.proofs.ProfileCases.{profile-numbered, max-high, max-low}
 use Rattle.rules.proofs.Checks.{bad-profile, bad-shape, bad-set, by-currents, wrong-count, wrong-kind, right-set}
 use borrow.Author.Needs.{needs}
 use Rattle.rules.proofs.checking.check.Statement.{statement}
@@ -44,7 +44,7 @@ returns-2 c =
     (clear (c .before .before .before)) (λ z. c .if2 .taken (ap number e ∙ z)))
 
 plan-requires : tie.Need-plan-requires
-plan-requires c κs = search needs
+plan-requires c κs = max-low (c .before .before .before .before .before .before .args .p) (clear (c .before .before .before))
 
 right-count-requires : tie.Need-right-count-requires
 right-count-requires c κs =

@@ -1,0 +1,40 @@
+-- `rules::building::words_to_27_w` meets its contract: the words of the range, with PPS where it is wanted.
+-- Assumes nothing.
+use borrow.Author.Needs.{needs}
+use mathlib.Core.Path.{_≡_, refl, ap, ap₂, sym, _∙_}
+use Rattle.lists.specs.Seven.{sevenTo}
+use Rattle.rules.specs.declared.Range.the-variants.{To27W}
+use Rattle.rules.proofs.RangeFacts.{with-pps, without-pps, same-words}
+use Rattle.rules.proofs.building.words_to_27_w.Statement.{statement}
+use Rattle.rules.proofs.building.words_to_27_w.Tie as tie
+
+rail-word-requires : tie.Need-rail-word-requires
+rail-word-requires c κs = search needs
+
+rail-word-requires-2 : tie.Need-rail-word-requires-2
+rail-word-requires-2 c κs = search needs
+
+prog-word-requires : tie.Need-prog-word-requires
+prog-word-requires c κs = search needs
+
+returns : tie.Need-returns
+unfolding sevenTo
+returns c =
+    same-words 3 (c .before .before .before .before .rail-word .ensures) (c .before .before .before .rail-word2 .ensures) (c .prog-word .ensures) refl refl refl refl
+    ∙ sym (with-pps _ To27W (c .before .if1 .taken))
+
+returns-2 : tie.Need-returns-2
+unfolding sevenTo
+returns-2 c =
+    same-words 2 (c .before .before .before .rail-word .ensures) (c .before .before .rail-word2 .ensures) refl refl refl refl refl
+    ∙ sym (without-pps _ To27W (c .if1 .left))
+
+pub words-to-27-w-spec : {M : Type 1} → statement M
+words-to-27-w-spec =
+    tie.close
+    (tie.spec
+    rail-word-requires
+    rail-word-requires-2
+    prog-word-requires
+    returns
+    returns-2)
