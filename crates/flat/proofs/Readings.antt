@@ -1,21 +1,22 @@
 -- What reading gives as flat objects: refused as the shape check refuses, and zero past the count.
 -- Assumes nothing.
-use mathlib.Core.Path.{_≡_, refl, ap, _∙_}
-use mathlib.Core.Bool.{Bool, true, false}
+use mathlib.Core.Path.{_≡_, refl, sym, ap, _∙_}
+use mathlib.Core.Bool.{Bool, true, false, cond}
 use mathlib.Core.List.{List, [], _∷_}
 use Prim.Native.Nat.{ℕ, _≤_}
 use native.Mathlib.Omega.{arith}
 use borrow.Author.Tests.{ltb-true, ltb-false}
 use lib.Dec.{ltb}
 use lib.ListN.{getD}
+use Rattle.objects.specs.Decode.{decodeOf}
 use Rattle.verdicts.specs.Refusals.{Refusal, refusal, firstOf, success}
 use Rattle.lists.specs.declared.Words.{Words}
 use Rattle.lists.specs.declared.Place.{Place}
 use Rattle.lists.specs.declared.Objects.{Objects}
 use Rattle.lists.specs.declared.Reading.{Reading}
-use Rattle.lists.specs.Seven.{sevenTo}
+use Rattle.lists.specs.Seven.{placeTo, sevenTo}
 use Rattle.lists.specs.Shape.{shapeRefusals}
-use Rattle.lists.specs.Reading.{emptyPlace, noObjects, placeOf, readRefused, readOf}
+use Rattle.lists.specs.Reading.{emptyPlace, noObjects, objectOf, placeOf, readRefused, readOf}
 use Rattle.lists.proofs.Sevens.{none-filled, filled-at, past-filled}
 use Rattle.lists.proofs.Readings.{readAs, read-empty}
 use Rattle.flat.specs.declared.FlatObject.{FlatObject}
@@ -31,6 +32,22 @@ empty-flat = refl
 no-flat : flatObjects noObjects ≡ noFlat
 unfolding sevenTo flatOf
 no-flat = refl
+
+pub none-flattened : noFlat ≡ flatObjects noObjects
+none-flattened = sym no-flat
+
+-- the object of a word, flattened: what reading gives at its place
+abbrev pub flatWord : List ℕ → ℕ → FlatObject
+flatWord ws k = flatOf (objectOf (decodeOf (getD ws k 0)))
+
+pub words-flattened : (ws : List ℕ) (n : ℕ) → sevenTo (flatWord ws) emptyFlat n ≡ sevenTo (flatAt (sevenTo (placeOf ws) emptyPlace n)) emptyFlat 7
+unfolding sevenTo
+words-flattened ws n = rw (one 0, one 1, one 2, one 3, one 4, one 5, one 6) where
+  one : (k : ℕ) → placeTo (flatWord ws) emptyFlat n k ≡ flatOf (placeTo (placeOf ws) emptyPlace n k .object)
+  one k = go (ltb k n) where
+    go : (b : Bool) → cond b (flatWord ws k) emptyFlat ≡ flatOf (cond b (placeOf ws k) emptyPlace .object)
+    go true = refl
+    go false = sym empty-flat
 
 -- what holds of each refusal and of the answer holds of the first of them
 by-first : {A : Type 0} (P : A → Type 0) (refused : ℕ → ℕ → A) (rs : List Refusal) (answer : A) → ((n p : ℕ) → P (refused n p)) → P answer

@@ -1,4 +1,4 @@
--- `flat::reading::flatten_places` meets its contract: the invariant is that the places passed are filled.
+-- `flat::reading::flatten_words` meets its contract: the invariant is that the places passed are filled.
 -- Assumes nothing.
 use borrow.Author.Needs.{needs}
 use mathlib.Core.Path.{_≡_, ap, ap₂, _∙_}
@@ -10,30 +10,34 @@ use Rattle.lists.specs.Seven.{sevenTo}
 use Rattle.lists.proofs.Sevens.{none-filled, one-filled}
 use Rattle.flat.specs.declared.FlatObject.{FlatObject}
 use Rattle.flat.specs.declared.FlatObjects.{FlatObjects}
-use Rattle.flat.specs.Reading.{emptyFlat, flatAt}
-use Rattle.flat.proofs.reading.flatten_places.Statement.{statement}
-use Rattle.flat.proofs.reading.flatten_places.Tie as tie
+use Rattle.flat.specs.Reading.{emptyFlat}
+use Rattle.flat.proofs.Readings.{flatWord, words-flattened}
+use Rattle.flat.proofs.reading.flatten_words.Statement.{statement}
+use Rattle.flat.proofs.reading.flatten_words.Tie as tie
 
 abbrev listed : List FlatObject → ℕ → FlatObjects
 listed fs n = record { places = fs; count = n }
 
 abbrev Inv-loop : tie.InvT-loop
-Inv-loop list count places₀ i₀ places i = (i ≤ 7) × (places ≡ sevenTo (flatAt (list .places)) emptyFlat i)
+Inv-loop list count places₀ i₀ places i = (i ≤ count) × (places ≡ sevenTo (flatWord (list .words)) emptyFlat i)
 
 abbrev μ-loop : tie.MeasureT-loop
-μ-loop list count places₀ i₀ places i = 7 - i
+μ-loop list count places₀ i₀ places i = count - i
 
 loop-holds : tie.Need-loop-holds Inv-loop μ-loop
 loop-holds c = (search needs, none-filled _ _)
 
-mul-place : tie.Need-mul-place Inv-loop μ-loop
-mul-place c = search needs
+cast-at : tie.Need-cast-at Inv-loop μ-loop
+cast-at c = search needs
 
-element-copy-out-place : tie.Need-element-copy-out-place Inv-loop μ-loop
-element-copy-out-place c = search needs
+mul-w : tie.Need-mul-w Inv-loop μ-loop
+mul-w c = search needs
 
-flatten-requires : tie.Need-flatten-requires Inv-loop μ-loop
-flatten-requires c κs = search needs
+element-copy-out-w : tie.Need-element-copy-out-w Inv-loop μ-loop
+element-copy-out-w c = search needs
+
+flat-word-requires : tie.Need-flat-word-requires Inv-loop μ-loop
+flat-word-requires c κs = search needs
 
 mul-places : tie.Need-mul-places Inv-loop μ-loop
 mul-places c = search needs
@@ -53,27 +57,29 @@ loop-again c =
     let at = c .before .before .before .loop in
     let below : at .i < 7 = omega arith in (
       omega arith,
-      ap₂ (λ (fs : List FlatObject) (x : FlatObject). set fs (at .i) x) (at .inv .1) (c .flatten .ensures)
-          ∙ one-filled (flatAt (l .places)) emptyFlat (at .i) below,
+      ap₂ (λ (fs : List FlatObject) (x : FlatObject). set fs (at .i) x) (at .inv .1) (c .flat-word .ensures)
+          ∙ one-filled (flatWord (l .words)) emptyFlat (at .i) below,
     )
 
 returns : tie.Need-returns Inv-loop μ-loop
 returns c =
     let l = c .before .before .args .t1 in
     let at = c .before .loop in
-    let e : at .i ≡ 7 = omega arith in
-    ap (λ (fs : List FlatObject). listed fs (l .count)) (at .inv .1 ∙ ap (sevenTo (flatAt (l .places)) emptyFlat) e)
+    let e : at .i ≡ l .count = omega arith in
+    ap (λ (fs : List FlatObject). listed fs (l .count))
+    (at .inv .1 ∙ ap (sevenTo (flatWord (l .words)) emptyFlat) e ∙ words-flattened (l .words) (l .count))
 
-pub flatten-places-spec : {M : Type 1} → statement M
-flatten-places-spec =
+pub flatten-words-spec : {M : Type 1} → statement M
+flatten-words-spec =
     tie.close
     (tie.spec
     Inv-loop
     μ-loop
     loop-holds
-    mul-place
-    element-copy-out-place
-    flatten-requires
+    cast-at
+    mul-w
+    element-copy-out-w
+    flat-word-requires
     mul-places
     array-set-from-places
     add-i
