@@ -19,7 +19,7 @@ use Rattle.lists.specs.declared.shape_check.Judged.the-variants.{Fine, R
 use Rattle.lists.specs.ObjectRules.{outOfBounds, over100W, mayFollow}
 use Rattle.lists.specs.Shape.{outOfOrder, wordRefusals, wordRows}
 use Rattle.lists.specs.Reading.{objectOf}
-use Rattle.lists.specs.Judging.{judgedOf}
+use Rattle.lists.specs.Judging.{Ranked, judgedOf}
 
 module _ (first : Bool) (place : ℕ) (before : Object) (w : ℕ) where
   pub not-known : decodeOf w ≡ NotAllowed → judgedOf first place before w ≡ Refused (verdict 12 place)
@@ -82,6 +82,12 @@ pub rows-at : (ws : List ℕ) (k : ℕ) (before : Object) → (0 < k → decodeO
 rows-at ws zero before h = refl
 rows-at ws (suc k) before h =
     ap (λ (d : Decoded). wordRefusals (eqb (suc k) 0) (suc k + 1) d (getD ws (suc k) 0)) (sym (h (omega arith)))
+
+-- the object before a place, of this rank and this key; before the first place any object will do
+pub record Before (ws : List ℕ) (k earlier low : ℕ) : Type 0 where
+  pub object : Object
+  pub ranked : Ranked earlier low object
+  pub decoded : 0 < k → decodeOf (getD ws (k - 1) 0) ≡ Known object
 
 module _ (ws : List ℕ) (k : ℕ) (before : Object) (h : 0 < k → decodeOf (getD ws (k - 1) 0) ≡ Known before) where
   pub refused-word : (v : Verdict) → judgedOf (eqb k 0) (k + 1) before (getD ws k 0) ≡ Refused v → (x : Verdict) → firstOf verdict (wordRows ws k) x ≡ v

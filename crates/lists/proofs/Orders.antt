@@ -1,4 +1,4 @@
--- When one object may follow another: by the kinds, and within a kind by the keys.
+-- When an object may follow one of a rank and a key: by the ranks, and within a rank by the keys.
 -- Assumes nothing.
 use mathlib.Core.Path.{_≡_, refl}
 use mathlib.Core.Bool.{Bool, true, false, _&&_, _||_}
@@ -7,16 +7,17 @@ use native.Mathlib.Omega.{arith}
 use borrow.Author.Tests.{lt-ltb, le-ltb, eq-eqb, ne-eqb}
 use Rattle.objects.specs.declared.Object.{Object}
 use Rattle.lists.specs.ObjectRules.{rankOf, keyOf, keysMayFollow, mayFollow}
+use Rattle.lists.specs.Judging.{Follows}
 
-module _ (before o : Object) where
-  pub higher : rankOf before < rankOf o → mayFollow before o ≡ true
+module _ (earlier low : ℕ) (o : Object) where
+  pub higher : earlier < rankOf o → Follows earlier low o true
   unfolding mayFollow
-  higher h = rw (lt-ltb (rankOf before) (rankOf o) h)
+  higher h before r = rw (r .rank, lt-ltb earlier (rankOf o) h)
 
-  pub lower : rankOf o < rankOf before → mayFollow before o ≡ false
+  pub lower : rankOf o < earlier → Follows earlier low o false
   unfolding mayFollow
-  lower h = rw (le-ltb (rankOf before) (rankOf o) (omega arith), ne-eqb (rankOf before) (rankOf o) (λ e. omega arith))
+  lower h before r = rw (r .rank, le-ltb earlier (rankOf o) (omega arith), ne-eqb earlier (rankOf o) (λ e. omega arith))
 
-  pub level : rankOf before ≤ rankOf o → rankOf o ≤ rankOf before → mayFollow before o ≡ keysMayFollow o (keyOf before) (keyOf o)
+  pub level : earlier ≤ rankOf o → rankOf o ≤ earlier → Follows earlier low o (keysMayFollow o low (keyOf o))
   unfolding mayFollow
-  level h k = rw (le-ltb (rankOf before) (rankOf o) k, eq-eqb (rankOf before) (rankOf o) (omega arith))
+  level h k before r = rw (r .rank, r .key, le-ltb earlier (rankOf o) k, eq-eqb earlier (rankOf o) (omega arith))

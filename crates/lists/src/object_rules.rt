@@ -1,6 +1,7 @@
 // What the shape of a list asks of an object by itself, and of an object and the one before it.
 ghost use mathlib.Core.Path.{_≡_};
-ghost use Rattle.lists.specs.ObjectRules.{outOfBounds, over100W, rankOf, keyOf, mayFollow};
+ghost use Rattle.lists.specs.ObjectRules.{outOfBounds, over100W, rankOf, keyOf};
+ghost use Rattle.lists.specs.Judging.{Follows};
 use objects::Object;
 
 // 15: a voltage past its bound. In 50 mV steps 20 V is 400 and 21 V is 420; in 100 mV steps 21 V is 210.
@@ -70,11 +71,10 @@ pub fn key(o: Object) -> u16
     }
 }
 
-// Whether an object may stand right after another (14).
-pub fn may_follow(before: Object, o: Object) -> bool
-    ensures { λ r. ⌜ r ≡ mayFollow before o ⌝ }
+// Whether an object may stand right after one of this rank and key (14).
+pub fn may_follow(earlier: u8, low: u16, o: Object) -> bool
+    ensures { λ r. ⌜ Follows earlier low o r ⌝ }
 {
-    let earlier = rank(before);
     let later = rank(o);
     if earlier < later {
         return true;
@@ -82,7 +82,6 @@ pub fn may_follow(before: Object, o: Object) -> bool
     if later < earlier {
         return false;
     }
-    let low = key(before);
     let high = key(o);
     match o {
         Object::Fixed { .. } => low < high,

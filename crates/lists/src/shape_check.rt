@@ -6,13 +6,14 @@ ghost use Rattle.steps.specs.Units.{mv50};
 ghost use Rattle.objects.specs.Decode.{decodeOf};
 ghost use Rattle.objects.specs.Asking.{ofObject};
 ghost use Rattle.lists.specs.Shape.{isFixed5V, wordRows, fixedWith, hasFixed, avsDiffers, avsRows};
-ghost use Rattle.lists.specs.Judging.{judgedOf};
+ghost use Rattle.lists.specs.Judging.{Judges};
 ghost use Rattle.lists.specs.Promises.{Shapes};
-use crate::EMPTY_PLACE;
 use crate::Words;
+use crate::object_rules::key;
 use crate::object_rules::may_follow;
 use crate::object_rules::out_of_bounds;
 use crate::object_rules::over_100_w;
+use crate::object_rules::rank;
 use objects::Decoded;
 use objects::Object;
 use steps::Ma10;
@@ -38,9 +39,9 @@ fn is_fixed_5_v(w: u32) -> bool
     volts.0 == 100
 }
 
-// One word, with the object before it.
-fn judge(first: bool, place: u8, before: Object, w: u32) -> Judged
-    ensures { λ r. ⌜ r ≡ judgedOf first place before w ⌝ }
+// One word, with the rank and the key of the object before it.
+fn judge(first: bool, place: u8, earlier: u8, low: u16, w: u32) -> Judged
+    ensures { λ r. ⌜ Judges first place earlier low w r ⌝ }
 {
     let d = objects::decode(w);
     let Decoded::Known(object) = d else {
@@ -70,7 +71,7 @@ fn judge(first: bool, place: u8, before: Object, w: u32) -> Judged
     if first {
         return Judged::Fine(object);
     }
-    if may_follow(before, object) {
+    if may_follow(earlier, low, object) {
         return Judged::Fine(object);
     }
     Judged::Refused(Verdict {
@@ -85,15 +86,17 @@ fn judge_words(list: Words) -> Verdict
     ensures { λ r. ⌜ r ≡ verdictOf (eachPlace (wordRows (list .words)) (list .count)) ⌝ }
 {
     let count = list.count;
-    let mut before = EMPTY_PLACE.object;
+    let mut earlier: u8 = 0;
+    let mut low: u16 = 0;
     let mut i: u8 = 0;
     while i < count {
         let at = i as usize;
         let w = list.words[at];
-        let j = judge(i == 0, i + 1, before, w);
+        let j = judge(i == 0, i + 1, earlier, low, w);
         match j {
             Judged::Fine(object) => {
-                before = object;
+                earlier = rank(object);
+                low = key(object);
             }
             Judged::Refused(verdict) => {
                 return verdict;

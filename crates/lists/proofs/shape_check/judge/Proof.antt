@@ -36,59 +36,59 @@ enum-told : tie.Need-enum-told
 enum-told c = search needs
 
 returns : tie.Need-returns
-returns c = sym (not-known _ _ _ _ (sym (c .before .before .decode .ensures) ∙ c .enum-told .given .1))
+returns c before r = sym (not-known _ _ before _ (sym (c .before .before .decode .ensures) ∙ c .enum-told .given .1))
 
 reserved-bit-set-requires : tie.Need-reserved-bit-set-requires
 reserved-bit-set-requires c κs = search needs
 
 returns-2 : tie.Need-returns-2
-returns-2 c = sym (reserved _ _ _ _ _ (known (c .before)) (sym (c .before .reserved-bit-set .ensures) ∙ c .if1 .taken))
+returns-2 c before r = sym (reserved _ _ before _ _ (known (c .before)) (sym (c .before .reserved-bit-set .ensures) ∙ c .if1 .taken))
 
 out-of-bounds-requires : tie.Need-out-of-bounds-requires
 out-of-bounds-requires c κs = search needs
 
 returns-3 : tie.Need-returns-3
-returns-3 c =
-    sym (bound _ _ _ _ _ (known (c .before .before .before)) (clear (c .before .before)) (sym (c .before .out-of-bounds .ensures) ∙ c .if2 .taken))
+returns-3 c before r =
+    sym (bound _ _ before _ _ (known (c .before .before .before)) (clear (c .before .before)) (sym (c .before .out-of-bounds .ensures) ∙ c .if2 .taken))
 
 over-100-w-requires : tie.Need-over-100-w-requires
 over-100-w-requires c κs = search needs
 
 returns-4 : tie.Need-returns-4
-returns-4 c =
-    sym (power _ _ _ _ _ (known (c .before .before .before .before .before)) (clear (c .before .before .before .before))
+returns-4 c before r =
+    sym (power _ _ before _ _ (known (c .before .before .before .before .before)) (clear (c .before .before .before .before))
     (bounded (c .before .before)) (sym (c .before .over-100-w .ensures) ∙ c .if3 .taken))
 
 returns-5 : tie.Need-returns-5
-returns-5 c =
+returns-5 c before r =
     let s = c .before in
-    sym (fine _ _ _ _ _ (known (s .before .before .before .before .before)) (clear (s .before .before .before .before))
+    sym (fine _ _ before _ _ (known (s .before .before .before .before .before)) (clear (s .before .before .before .before))
     (bounded (s .before .before)) (limited s) (first-in-order
     (s .before .before .before .before .before .before .before .before .before .before .args .first)
-    (s .before .before .before .before .before .before .before .before .before .before .args .before)
+    before
     (s .before .before .before .before .before .before .before .d .given .0 .0) (c .if4 .taken)))
 
 may-follow-requires : tie.Need-may-follow-requires
 may-follow-requires c κs = search needs
 
 returns-6 : tie.Need-returns-6
-returns-6 c =
+returns-6 c before r =
     let s = c .before .before .before in
-    sym (fine _ _ _ _ _ (known (s .before .before .before .before .before)) (clear (s .before .before .before .before))
+    sym (fine _ _ before _ _ (known (s .before .before .before .before .before)) (clear (s .before .before .before .before))
     (bounded (s .before .before)) (limited s) (in-order
     (s .before .before .before .before .before .before .before .before .before .before .args .first)
-    (s .before .before .before .before .before .before .before .before .before .before .args .before)
-    (s .before .before .before .before .before .before .before .d .given .0 .0) (sym (c .before .may-follow .ensures) ∙ c .if5 .taken)))
+    before
+    (s .before .before .before .before .before .before .before .d .given .0 .0) (sym (c .before .may-follow .ensures before r) ∙ c .if5 .taken)))
 
 returns-7 : tie.Need-returns-7
-returns-7 c =
+returns-7 c before r =
     let s = c .before .before .before in
-    sym (order _ _ _ _ _ (known (s .before .before .before .before .before)) (clear (s .before .before .before .before))
+    sym (order _ _ before _ _ (known (s .before .before .before .before .before)) (clear (s .before .before .before .before))
     (bounded (s .before .before)) (limited s)
     (out-of-order (s .before .before .before .before .before .before .before .before .before .before .args .first)
-    (s .before .before .before .before .before .before .before .before .before .before .args .before)
+    before
     (s .before .before .before .before .before .before .before .d .given .0 .0) (c .before .before .if4 .left)
-    (sym (c .before .may-follow .ensures) ∙ c .if5 .left)))
+    (sym (c .before .may-follow .ensures before r) ∙ c .if5 .left)))
 
 pub judge-spec : {M : Type 1} → statement M
 judge-spec =

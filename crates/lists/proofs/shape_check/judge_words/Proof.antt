@@ -10,21 +10,24 @@ use Rattle.verdicts.proofs.First.{NoneApply, none-yet, none-more, all-missed, d
 use Rattle.objects.specs.declared.Decoded.the-variants.{Known}
 use Rattle.objects.specs.Decode.{decodeOf}
 use Rattle.lists.specs.Shape.{wordRows}
-use Rattle.lists.proofs.Judging.{refused-word, fine-word, fine-object}
+use Rattle.lists.specs.Reading.{zeroObject}
+use Rattle.lists.proofs.Judging.{Before, refused-word, fine-word, fine-object}
 use Rattle.lists.proofs.shape_check.judge_words.Statement.{statement}
 use Rattle.lists.proofs.shape_check.judge_words.Tie as tie
 
 abbrev Inv-loop : tie.InvT-loop
-Inv-loop list count before₀ i₀ before i =
-    (i ≤ count)
-    × (NoneApply (eachPlace (wordRows (list .words)) i))
-    × (0 < i → decodeOf (getD (list .words) (i - 1) 0) ≡ Known before)
+Inv-loop list count earlier₀ low₀ i₀ earlier low i =
+    (i ≤ count) × (NoneApply (eachPlace (wordRows (list .words)) i)) × (Before (list .words) i earlier low)
 
 abbrev μ-loop : tie.MeasureT-loop
-μ-loop list count before₀ i₀ before i = count - i
+μ-loop list count earlier₀ low₀ i₀ earlier low i = count - i
 
 loop-holds : tie.Need-loop-holds Inv-loop μ-loop
-loop-holds c = (search needs, none-yet _, λ h. absurd (omega arith))
+loop-holds c = (
+  search needs,
+  none-yet _,
+  record { object = zeroObject; ranked = record { rank = refl; key = refl }; decoded = λ h. absurd (omega arith) },
+)
 
 cast-at : tie.Need-cast-at Inv-loop μ-loop
 cast-at c = search needs
@@ -51,8 +54,16 @@ returns : tie.Need-returns Inv-loop μ-loop
 returns c =
     let l = c .before .before .before .before .before .before .before .args .t1 in
     let at = c .before .before .before .before .before .before .loop in
+    let b = at .inv .2 in
     sym (decided (wordRows (l .words)) verdict (at .i) (l .count) _ (c .before .before .before .before .before .loop-test .taken) (at .inv .1)
-    (refused-word (l .words) (at .i) (at .before) (at .inv .2) _ (sym (c .before .before .before .judge .ensures) ∙ c .before .j2 .given .1)) success)
+    (refused-word (l .words) (at .i) (b .object) (b .decoded) _
+    (sym (c .before .before .before .judge .ensures (b .object) (b .ranked)) ∙ c .before .j2 .given .1)) success)
+
+rank-requires : tie.Need-rank-requires Inv-loop μ-loop
+rank-requires c κs = search needs
+
+key-requires : tie.Need-key-requires Inv-loop μ-loop
+key-requires c κs = search needs
 
 add-i : tie.Need-add-i Inv-loop μ-loop
 add-i c = search needs
@@ -62,13 +73,19 @@ loop-less c = search needs
 
 loop-again : tie.Need-loop-again Inv-loop μ-loop
 loop-again c =
-    let l = c .before .before .before .before .before .before .before .args .t1 in
-    let at = c .before .before .before .before .before .before .loop in
-    let e = sym (c .before .before .before .judge .ensures) ∙ c .before .j .given .1 in
+    let l = c .before .before .before .before .before .before .before .before .before .args .t1 in
+    let at = c .before .before .before .before .before .before .before .before .loop in
+    let b = at .inv .2 in
+    let j = c .before .before .before .j .given in
+    let e = sym (c .before .before .before .before .before .judge .ensures (b .object) (b .ranked)) ∙ j .1 in
     let z : at .i + 1 - 1 ≡ at .i = omega arith in (
       omega arith,
-      none-more (wordRows (l .words)) (at .i) (at .inv .1) (fine-word (l .words) (at .i) (at .before) (at .inv .2) _ e),
-      λ h. ap (λ (k : ℕ). decodeOf (getD (l .words) k 0)) z ∙ fine-object _ _ _ _ _ e,
+      none-more (wordRows (l .words)) (at .i) (at .inv .1) (fine-word (l .words) (at .i) (b .object) (b .decoded) _ e),
+      record {
+        object = j .0 .0;
+        ranked = record { rank = sym (c .before .rank .ensures); key = sym (c .key .ensures) };
+        decoded = λ h. ap (λ (k : ℕ). decodeOf (getD (l .words) k 0)) z ∙ fine-object _ _ _ _ _ e;
+      },
     )
 
 returns-2 : tie.Need-returns-2 Inv-loop μ-loop
@@ -91,6 +108,8 @@ judge-words-spec =
     add-judge
     judge-requires
     enum-known-j
+    rank-requires
+    key-requires
     enum-known-j-2
     returns
     add-i
