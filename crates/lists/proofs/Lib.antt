@@ -1,5 +1,6 @@
 pub mod Orders
 pub mod Judging
+pub mod Telling
 pub mod Finding
 pub mod Matching
 pub mod Sevens

@@ -26,17 +26,14 @@ pub enum Judged {
     Refused(Verdict),
 }
 
+// The kind stands in bits 31..30, a fixed voltage in 19..10. 5 V is 100 steps of 50 mV.
 fn is_fixed_5_v(w: u32) -> bool
     ensures { λ r. ⌜ r ≡ isFixed5V w ⌝ }
 {
-    let d = objects::decode(w);
-    let Decoded::Known(o) = d else {
+    if (w >> 30) & 0x3 != 0 {
         return false;
-    };
-    let Object::Fixed { volts, .. } = o else {
-        return false;
-    };
-    volts.0 == 100
+    }
+    (w >> 10) & 0x3FF == 100
 }
 
 // One word, with the rank and the key of the object before it.
@@ -110,25 +107,17 @@ fn judge_words(list: Words) -> Verdict
     }
 }
 
+// A fixed object's voltage stands in bits 19..10 and its current in 9..0: they are compared where they stand.
 fn fixed_with(w: u32, volts: Mv50, current: Ma10) -> bool
     ensures { λ r. ⌜ r ≡ ofObject (fixedWith (mv50 volts) current) (decodeOf w) ⌝ }
 {
-    let d = objects::decode(w);
-    let Decoded::Known(o) = d else {
-        return false;
-    };
-    let Object::Fixed {
-        volts: own_volts,
-        current: own_current,
-        ..
-    } = o
-    else {
-        return false;
-    };
-    if own_volts.0 != volts.0 {
+    if (w >> 30) & 0x3 != 0 {
         return false;
     }
-    own_current.0 == current.0
+    if (w >> 10) & 0x3FF != (volts.0 as u32) {
+        return false;
+    }
+    w & 0x3FF == (current.0 as u32)
 }
 
 // Whether the list has a fixed object of this voltage and this current.
@@ -149,14 +138,17 @@ fn has_fixed(list: Words, volts: Mv50, current: Ma10) -> bool
     false
 }
 
-// Whether an AVS object differs from the fixed objects of its list. 15 V is 300 steps of 50 mV, 20 V is 400.
-fn avs_differs(list: Words, o: Object) -> bool
+// Whether a word is an AVS object (1110b in bits 31..28) that differs from the fixed objects of its list. Its currents
+// stand in bits 19..10 and 9..0. 15 V is 300 steps of 50 mV, 20 V is 400.
+fn avs_differs(list: Words, w: u32) -> bool
     requires { ⌜ list .count ≤ 7 ⌝ }
-    ensures { λ r. ⌜ r ≡ avsDiffers (list .words) (list .count) o ⌝ }
+    ensures { λ r. ⌜ r ≡ ofObject (avsDiffers (list .words) (list .count)) (decodeOf w) ⌝ }
 {
-    let Object::Avs { low, high, .. } = o else {
+    if (w >> 28) & 0xF != 0xE {
         return false;
-    };
+    }
+    let low = Ma10(((w >> 10) & 0x3FF) as u16);
+    let high = Ma10((w & 0x3FF) as u16);
     if has_fixed(list, Mv50(300), low) {
         if high.0 == 0 {
             return false;
@@ -176,14 +168,11 @@ fn judge_avs(list: Words) -> Verdict
     while i < count {
         let at = i as usize;
         let w = list.words[at];
-        let d = objects::decode(w);
-        if let Decoded::Known(o) = d {
-            if avs_differs(list, o) {
-                return Verdict {
-                    number: verdicts::AVS_DIFFERS,
-                    place: i + 1,
-                };
-            }
+        if avs_differs(list, w) {
+            return Verdict {
+                number: verdicts::AVS_DIFFERS,
+                place: i + 1,
+            };
         }
         i += 1;
     }

@@ -1,58 +1,77 @@
--- `lists::shape_check::avs_differs` meets its contract: the 15 V object is looked for first, then the end of the range.
+-- `lists::shape_check::avs_differs` meets its contract: of an AVS word the 15 V object is looked for first, then the end of the range.
 -- Assumes nothing.
-use mathlib.Core.Path.{_≡_, refl, ap, sym, _∙_}
-use mathlib.Core.Bool.{Bool, true, false, not}
-use Prim.Native.Nat.{ℕ}
-use Rattle.steps.specs.declared.Ma10.{Ma10}
-use Rattle.objects.specs.Asking.{ofAvs}
-use Rattle.objects.proofs.Others.{not-avs}
-use Rattle.lists.specs.Shape.{hasFixed, avsMatches, avsDiffers}
-use Rattle.lists.proofs.Matching.{no-15-V, ends-at-15-V, by-20-V}
 use borrow.Author.Needs.{needs}
+use mathlib.Core.Path.{_≡_, ap, ap₂, sym, _∙_}
+use mathlib.Core.Bool.{Bool, not}
+use mathlib.Core.List.{List}
+use Prim.Native.Nat.{ℕ, _/_, _^_}
+use lib.Bits.{bitAnd}
+use Rattle.steps.specs.declared.Ma10.{Ma10}
+use Rattle.objects.specs.Bits.{bits}
+use Rattle.objects.specs.Asking.{ofObject}
+use Rattle.objects.specs.Decode.{decodeOf}
+use Rattle.objects.proofs.Taking.{taken, taken-low, taken-fits, low-fits}
+use Rattle.lists.specs.Shape.{hasFixed, avsMatches, avsDiffers}
+use Rattle.lists.proofs.Telling.{no-avs, an-avs}
+use Rattle.lists.proofs.Matching.{no-15-V, ends-at-15-V, by-20-V}
 use Rattle.lists.proofs.shape_check.avs_differs.Statement.{statement}
 use Rattle.lists.proofs.shape_check.avs_differs.Tie as tie
 
-enum-known-o : tie.Need-enum-known-o
-enum-known-o c = search needs
+-- an AVS word, by the currents taken out of it
+as-taken : (ws : List ℕ) (n w : ℕ) → bitAnd (w / 2 ^ 28) 15 ≡ 14
+    → ofObject (avsDiffers ws n) (decodeOf w) ≡ not (avsMatches ws n (record { 0 = bitAnd (w / 2 ^ 10) 1023 }) (record { 0 = bitAnd w 1023 }))
+unfolding avsDiffers
+as-taken ws n w e =
+    an-avs (λ low high. not (avsMatches ws n low high)) w (sym (taken w 31 28) ∙ e)
+    ∙ ap₂ (λ (l h : ℕ). not (avsMatches ws n (record { 0 = l }) (record { 0 = h }))) (sym (taken w 19 10)) (sym (taken-low w 9))
 
 returns : tie.Need-returns
 unfolding avsDiffers
 returns c =
     let x = c .before .args in
-    sym (not-avs (λ low high. not (avsMatches (x .list .words) (x .list .count) low high)) (x .o) (c .match .keys2))
+    sym (no-avs (λ low high. not (avsMatches (x .list .words) (x .list .count) low high)) (x .w) (λ e. c .if1 .taken (taken (x .w) 31 28 ∙ e)))
+
+cast-t8 : tie.Need-cast-t8
+cast-t8 c = taken-fits (c .before .args .w) 19 10 tt
+
+cast-t8-2 : tie.Need-cast-t8-2
+cast-t8-2 c = low-fits (c .before .args .w) 9 tt
 
 has-fixed-requires : tie.Need-has-fixed-requires
 has-fixed-requires c κs = search needs
 
 returns-2 : tie.Need-returns-2
-unfolding avsDiffers
 returns-2 c =
-    rw (c .before .before .before .before .before .o .given .1)
-    (sym (ends-at-15-V _ _ _ _ (sym (c .before .before .before .has-fixed .ensures) ∙ c .before .before .if1 .taken) (c .if2 .taken)))
+    let a = c .before .before .before in
+    let x = a .before .before .args in
+    sym (as-taken (x .list .words) (x .list .count) (x .w) (a .before .if1 .left)
+    ∙ ends-at-15-V _ _ _ _ (sym (a .has-fixed .ensures) ∙ c .before .before .if2 .taken) (c .if3 .taken))
 
 has-fixed-requires-2 : tie.Need-has-fixed-requires-2
 has-fixed-requires-2 c κs = search needs
 
 returns-3 : tie.Need-returns-3
-unfolding avsDiffers
 returns-3 c =
-    rw (c .before .before .before .before .before .before .o .given .1)
-    (ap not (c .has-fixed2 .ensures)
-    ∙ sym (by-20-V _ _ _ _ (sym (c .before .before .before .before .has-fixed .ensures) ∙ c .before .before .before .if1 .taken)
-    (c .before .if2 .left)))
+    let a = c .before .before .before .before in
+    let x = a .before .before .args in
+    ap not (c .has-fixed2 .ensures)
+    ∙ sym (as-taken (x .list .words) (x .list .count) (x .w) (a .before .if1 .left)
+    ∙ by-20-V _ _ _ _ (sym (a .has-fixed .ensures) ∙ c .before .before .before .if2 .taken) (c .before .if3 .left))
 
 returns-4 : tie.Need-returns-4
-unfolding avsDiffers
 returns-4 c =
-    rw (c .before .before .before .o .given .1)
-    (sym (no-15-V _ _ _ (c .before .before .before .o .given .0 .1 .1 .0) (sym (c .before .has-fixed .ensures) ∙ c .if1 .left)))
+    let a = c .before in
+    let x = a .before .before .args in
+    sym (as-taken (x .list .words) (x .list .count) (x .w) (a .before .if1 .left)
+    ∙ no-15-V _ _ _ (record { 0 = bitAnd (x .w) 1023 }) (sym (a .has-fixed .ensures) ∙ c .if2 .left))
 
 pub avs-differs-spec : {M : Type 1} → statement M
 avs-differs-spec =
     tie.close
     (tie.spec
-    enum-known-o
     returns
+    cast-t8
+    cast-t8-2
     has-fixed-requires
     returns-2
     has-fixed-requires-2

@@ -1,62 +1,31 @@
 -- `lists::shape_check::is_fixed_5_v` meets its contract: 5 V is 100 steps of 50 mV.
 -- Assumes nothing.
-use mathlib.Core.Path.{_≡_, refl, ap, sym, _∙_}
-use mathlib.Core.Bool.{Bool, true, false, _&&_, true-and, false-and}
-use mathlib.Core.List.{List, [], _∷_}
-use Prim.Native.Nat.{ℕ, _*_}
+use mathlib.Core.Path.{_≡_, ap, sym, _∙_}
+use Prim.Native.Nat.{ℕ}
 use native.Mathlib.Omega.{arith}
 use lib.Dec.{eqb}
-use borrow.Author.Tests.{eq-eqb, ne-eqb}
 use Rattle.steps.specs.Units.{mv50}
-use Rattle.steps.specs.declared.Mv50.{Mv50}
-use Rattle.steps.specs.declared.Ma10.{Ma10}
 use Rattle.steps.proofs.StepTests.{at}
-use Rattle.objects.specs.declared.Object.{Object}
-use Rattle.objects.specs.declared.Decoded.{Decoded}
-use Rattle.objects.specs.declared.Decoded.the-variants.{Known, NotAllowed}
-use Rattle.objects.specs.Asking.{ofObject, ofFixed}
-use Rattle.objects.specs.Decode.{decodeOf}
-use Rattle.objects.proofs.Others.{not-fixed}
+use Rattle.objects.specs.Bits.{bits}
+use Rattle.objects.proofs.Taking.{taken}
 use Rattle.lists.specs.Shape.{isFixed5V}
-use borrow.Author.Needs.{needs}
+use Rattle.lists.proofs.Telling.{no-fixed, a-fixed}
 use Rattle.lists.proofs.shape_check.is_fixed_5_v.Statement.{statement}
 use Rattle.lists.proofs.shape_check.is_fixed_5_v.Tie as tie
 
-abbrev asked : Object → Bool
-asked = ofFixed (λ v a. eqb (mv50 v) 5000)
-
--- where the word was decoded, it decodes to the object bound
-known : (c : tie.After-known-told) → decodeOf (c .before .before .before .before .args .w) ≡ Known (c .before .d .given .0 .0)
-known c = sym (c .before .before .before .decode .ensures) ∙ c .before .d .given .1
-
-decode-requires : tie.Need-decode-requires
-decode-requires c κs = search needs
-
-enum-known-d : tie.Need-enum-known-d
-enum-known-d c = search needs
-
-enum-told : tie.Need-enum-told
-enum-told c = search needs
-
 returns : tie.Need-returns
 unfolding isFixed5V
-returns c = sym (ap (ofObject asked) (sym (c .before .before .decode .ensures) ∙ c .enum-told .given .1))
-
-enum-known-o : tie.Need-enum-known-o
-enum-known-o c = search needs
+returns c =
+    let w = c .before .args .w in
+    sym (no-fixed (λ v a. eqb (mv50 v) 5000) w (λ e. c .if1 .taken (taken w 31 30 ∙ e)))
 
 returns-2 : tie.Need-returns-2
 unfolding isFixed5V
 returns-2 c =
-    sym (ap (ofObject asked) (known (c .before)) ∙ not-fixed (λ v a. eqb (mv50 v) 5000) (c .before .before .d .given .0 .0) (c .match2 .keys2))
-
-returns-3 : tie.Need-returns-3
-unfolding isFixed5V
-returns-3 c =
-    let o = c .before .before .o .given in
-    at 50 100 (o .0 .1 .1 .0 .0) (omega arith) ∙ sym (ap (ofObject asked) (known (c .before .before .before .before) ∙ ap Known (o .1)))
+    let w = c .before .args .w in
+    ap (λ (x : ℕ). eqb x 100) (taken w 19 10)
+    ∙ at 50 100 (bits w 19 10) (omega arith)
+    ∙ sym (a-fixed (λ v a. eqb (mv50 v) 5000) w (sym (taken w 31 30) ∙ c .if1 .left))
 
 pub is-fixed-5-v-spec : {M : Type 1} → statement M
-is-fixed-5-v-spec =
-    tie.close
-    (tie.spec decode-requires enum-known-d enum-told returns enum-known-o returns-2 returns-3)
+is-fixed-5-v-spec = tie.close (tie.spec returns returns-2)

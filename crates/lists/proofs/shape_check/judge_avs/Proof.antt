@@ -36,31 +36,18 @@ mul-w c = search needs
 element-copy-out-w : tie.Need-element-copy-out-w Inv-loop μ-loop
 element-copy-out-w c = search needs
 
-decode-requires : tie.Need-decode-requires Inv-loop μ-loop
-decode-requires c κs = search needs
-
-enum-known-d : tie.Need-enum-known-d Inv-loop μ-loop
-enum-known-d c = search needs
-
 avs-differs-requires : tie.Need-avs-differs-requires Inv-loop μ-loop
 avs-differs-requires c κs = search needs
 
-add-t16 : tie.Need-add-t16 Inv-loop μ-loop
-add-t16 c = search needs
+add-t14 : tie.Need-add-t14 Inv-loop μ-loop
+add-t14 c = search needs
 
 returns : tie.Need-returns Inv-loop μ-loop
 returns c =
-    let l = c .before .before .before .before .before .before .before .before .before .args .t1 in
-    let at = c .before .before .before .before .before .before .before .before .loop in
-    let e = ap (ofObject (avsDiffers (l .words) (l .count)))
-    (sym (c .before .before .before .before .before .decode .ensures) ∙ c .before .before .before .d .given .1)
-    ∙ sym (c .before .avs-differs .ensures) ∙ c .if1 .taken in
-    sym (decided (avsRows (l .words) (l .count)) verdict (at .i) (l .count) _
-    (c .before .before .before .before .before .before .before .loop-test .taken) (at .inv .1)
-    (λ (x : Verdict). hit verdict x 17 (at .i + 1) [] e) success)
-
-enum-told : tie.Need-enum-told Inv-loop μ-loop
-enum-told c = search needs
+    let l = c .before .before .before .before .before .args .t1 in
+    let at = c .before .before .before .before .loop in
+    sym (decided (avsRows (l .words) (l .count)) verdict (at .i) (l .count) _ (c .before .before .before .loop-test .taken) (at .inv .1)
+    (λ (x : Verdict). hit verdict x 17 (at .i + 1) [] (sym (c .before .avs-differs .ensures) ∙ c .if1 .taken)) success)
 
 add-i : tie.Need-add-i Inv-loop μ-loop
 add-i c = search needs
@@ -71,15 +58,9 @@ loop-less c = search needs
 loop-again : tie.Need-loop-again Inv-loop μ-loop
 loop-again c =
     let l = c .before .before .before .before .before .args .t1 in
-    let at = c .before .before .before .before .loop in
-    let asked = ofObject (avsDiffers (l .words) (l .count)) in (
+    let at = c .before .before .before .before .loop in (
       omega arith,
-      none-more (avsRows (l .words) (l .count)) (at .i) (at .inv .1) (
-        ⊎-elim
-            (λ w. ap asked (sym (c .before .decode .ensures) ∙ w .1 .given .1) ∙ sym (w .3 .ensures) ∙ w .4 .left)
-            (λ w. ap asked (sym (c .before .decode .ensures) ∙ w .1 .given .1)) (c .match .came),
-        tt,
-      ),
+      none-more (avsRows (l .words) (l .count)) (at .i) (at .inv .1) (sym (c .before .avs-differs .ensures) ∙ c .if1 .left, tt),
     )
 
 returns-2 : tie.Need-returns-2 Inv-loop μ-loop
@@ -99,12 +80,9 @@ judge-avs-spec =
     cast-at
     mul-w
     element-copy-out-w
-    decode-requires
-    enum-known-d
     avs-differs-requires
-    add-t16
+    add-t14
     returns
-    enum-told
     add-i
     loop-less
     loop-again
