@@ -1,6 +1,7 @@
 pub mod Orders
 pub mod Judging
 pub mod Telling
+pub mod Scanning
 pub mod Finding
 pub mod Matching
 pub mod Sevens

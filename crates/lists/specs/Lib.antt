@@ -4,6 +4,7 @@ pub mod Seven
 pub mod Reading
 pub mod Writing
 pub mod Judging
+pub mod Scanning
 pub mod Making
 pub mod Kept
 pub mod Promises

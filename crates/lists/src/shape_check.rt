@@ -1,12 +1,15 @@
 // The shape check (01, "Shape of a list").
 ghost use mathlib.Core.Path.{_≡_};
+ghost use mathlib.Core.Bool.{cond};
 ghost use Prim.Native.Nat.{_≤_};
+ghost use lib.Dec.{eqb};
 ghost use Rattle.verdicts.specs.Refusals.{eachPlace, verdictOf};
 ghost use Rattle.steps.specs.Units.{mv50};
 ghost use Rattle.objects.specs.Decode.{decodeOf};
 ghost use Rattle.objects.specs.Asking.{ofObject};
-ghost use Rattle.lists.specs.Shape.{isFixed5V, wordRows, fixedWith, hasFixed, avsDiffers, avsRows};
+ghost use Rattle.lists.specs.Shape.{isFixed5V, fixedWith, hasFixed, avsDiffers, avsRows};
 ghost use Rattle.lists.specs.Judging.{Judges};
+ghost use Rattle.lists.specs.Scanning.{OnlyAvs, Scans};
 ghost use Rattle.lists.specs.Promises.{Shapes};
 use crate::Words;
 use crate::object_rules::key;
@@ -19,6 +22,12 @@ use objects::Object;
 use steps::Ma10;
 use steps::Mv50;
 use verdicts::Verdict;
+
+// What the words say: the first refusal, and the place of the AVS word, 0 for none.
+pub struct Scan {
+    pub verdict: Verdict,
+    pub avs: u8,
+}
 
 // A word that was judged: its object, or its first refusal.
 pub enum Judged {
@@ -77,14 +86,25 @@ fn judge(first: bool, place: u8, earlier: u8, low: u16, w: u32) -> Judged
     })
 }
 
+// The place of the AVS word so far. An AVS object has the rank 3.
+fn avs_place(avs: u8, rank: u8, place: u8) -> u8
+    ensures { λ r. ⌜ r ≡ cond (eqb rank 3) place avs ⌝ }
+{
+    if rank == 3 {
+        return place;
+    }
+    avs
+}
+
 // Word by word, until one is refused.
-fn judge_words(list: Words) -> Verdict
+fn judge_words(list: Words) -> Scan
     requires { ⌜ list .count ≤ 7 ⌝ }
-    ensures { λ r. ⌜ r ≡ verdictOf (eachPlace (wordRows (list .words)) (list .count)) ⌝ }
+    ensures { λ r. ⌜ Scans (list .words) (list .count) r ⌝ }
 {
     let count = list.count;
     let mut earlier: u8 = 0;
     let mut low: u16 = 0;
+    let mut avs: u8 = 0;
     let mut i: u8 = 0;
     while i < count {
         let at = i as usize;
@@ -96,14 +116,18 @@ fn judge_words(list: Words) -> Verdict
                 low = key(object);
             }
             Judged::Refused(verdict) => {
-                return verdict;
+                return Scan { verdict, avs };
             }
         }
         i += 1;
+        avs = avs_place(avs, earlier, i);
     }
-    Verdict {
-        number: verdicts::SUCCESS,
-        place: 0,
+    Scan {
+        verdict: Verdict {
+            number: verdicts::SUCCESS,
+            place: 0,
+        },
+        avs,
     }
 }
 
@@ -158,23 +182,24 @@ fn avs_differs(list: Words, w: u32) -> bool
     true
 }
 
-// The first AVS word that differs from its fixed objects.
-fn judge_avs(list: Words) -> Verdict
-    requires { ⌜ list .count ≤ 7 ⌝ }
+// The AVS word, where there is one: there is no other, since no AVS object may follow one of its rank or a higher one.
+fn judge_avs(list: Words, avs: u8) -> Verdict
+    requires { ⌜ (list .count ≤ 7) × OnlyAvs (list .words) (list .count) avs ⌝ }
     ensures { λ r. ⌜ r ≡ verdictOf (eachPlace (avsRows (list .words) (list .count)) (list .count)) ⌝ }
 {
-    let count = list.count;
-    let mut i: u8 = 0;
-    while i < count {
-        let at = i as usize;
-        let w = list.words[at];
-        if avs_differs(list, w) {
-            return Verdict {
-                number: verdicts::AVS_DIFFERS,
-                place: i + 1,
-            };
-        }
-        i += 1;
+    if avs < 1 {
+        return Verdict {
+            number: verdicts::SUCCESS,
+            place: 0,
+        };
+    }
+    let at = (avs - 1) as usize;
+    let w = list.words[at];
+    if avs_differs(list, w) {
+        return Verdict {
+            number: verdicts::AVS_DIFFERS,
+            place: avs,
+        };
     }
     Verdict {
         number: verdicts::SUCCESS,
@@ -202,10 +227,10 @@ pub fn shape(list: Words) -> Verdict
     let first = list.words[0];
     if is_fixed_5_v(first) {
         let words = judge_words(list);
-        if words.number != verdicts::SUCCESS {
-            return words;
+        if words.verdict.number != verdicts::SUCCESS {
+            return words.verdict;
         }
-        return judge_avs(list);
+        return judge_avs(list, words.avs);
     }
     Verdict {
         number: verdicts::FIRST_NOT_FIXED_5_V,

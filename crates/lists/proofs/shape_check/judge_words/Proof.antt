@@ -2,31 +2,39 @@
 -- Assumes nothing.
 use borrow.Author.Needs.{needs}
 use mathlib.Core.Path.{_≡_, refl, ap, sym, _∙_, subst}
+use mathlib.Core.Bool.{cond}
 use Prim.Native.Nat.{ℕ, _+_, _-_, _≤_, _<_}
 use native.Mathlib.Omega.{arith}
+use lib.Dec.{eqb}
 use lib.ListN.{getD}
 use Rattle.verdicts.specs.Refusals.{eachPlace, verdict, success, verdictOf}
 use Rattle.verdicts.proofs.First.{NoneApply, none-yet, none-more, all-missed, decided}
 use Rattle.objects.specs.declared.Decoded.the-variants.{Known}
 use Rattle.objects.specs.Decode.{decodeOf}
 use Rattle.lists.specs.Shape.{wordRows}
+use Rattle.lists.specs.Scanning.{OnlyAvs}
 use Rattle.lists.specs.Reading.{zeroObject}
 use Rattle.lists.proofs.Judging.{Before, refused-word, fine-word, fine-object}
+use Rattle.lists.proofs.Scanning.{Alone, none-seen, one-more, refused-number}
 use Rattle.lists.proofs.shape_check.judge_words.Statement.{statement}
 use Rattle.lists.proofs.shape_check.judge_words.Tie as tie
 
 abbrev Inv-loop : tie.InvT-loop
-Inv-loop list count earlier₀ low₀ i₀ earlier low i =
-    (i ≤ count) × (NoneApply (eachPlace (wordRows (list .words)) i)) × (Before (list .words) i earlier low)
+Inv-loop list count earlier₀ low₀ avs₀ i₀ earlier low avs i =
+    (i ≤ count)
+    × (NoneApply (eachPlace (wordRows (list .words)) i))
+    × (Before (list .words) i earlier low)
+    × (Alone (list .words) i earlier avs)
 
 abbrev μ-loop : tie.MeasureT-loop
-μ-loop list count earlier₀ low₀ i₀ earlier low i = count - i
+μ-loop list count earlier₀ low₀ avs₀ i₀ earlier low avs i = count - i
 
 loop-holds : tie.Need-loop-holds Inv-loop μ-loop
 loop-holds c = (
   search needs,
   none-yet _,
   record { object = zeroObject; ranked = record { rank = refl; key = refl }; decoded = λ h. absurd (omega arith) },
+  none-seen _,
 )
 
 cast-at : tie.Need-cast-at Inv-loop μ-loop
@@ -55,9 +63,12 @@ returns c =
     let l = c .before .before .before .before .before .before .before .args .t1 in
     let at = c .before .before .before .before .before .before .loop in
     let b = at .inv .2 in
-    sym (decided (wordRows (l .words)) verdict (at .i) (l .count) _ (c .before .before .before .before .before .loop-test .taken) (at .inv .1)
-    (refused-word (l .words) (at .i) (b .object) (b .decoded) _
-    (sym (c .before .before .before .judge .ensures (b .object) (b .ranked)) ∙ c .before .j2 .given .1)) success)
+    let h = c .before .before .before .before .before .loop-test .taken in
+    let v = c .before .j2 .given .0 .0 in
+    let r = refused-word (l .words) (at .i) (b .object) (b .decoded) v
+    (sym (c .before .before .before .judge .ensures (b .object) (b .ranked)) ∙ c .before .j2 .given .1) in
+    let e = sym (decided (wordRows (l .words)) verdict (at .i) (l .count) v h (at .inv .1) r success) in
+    (e, λ z. absurd (refused-number (l .words) (l .count) (at .i) v h e r z))
 
 rank-requires : tie.Need-rank-requires Inv-loop μ-loop
 rank-requires c κs = search needs
@@ -68,32 +79,43 @@ key-requires c κs = search needs
 add-i : tie.Need-add-i Inv-loop μ-loop
 add-i c = search needs
 
+avs-place-requires : tie.Need-avs-place-requires Inv-loop μ-loop
+avs-place-requires c κs = search needs
+
 loop-less : tie.Need-loop-less Inv-loop μ-loop
 loop-less c = search needs
 
 loop-again : tie.Need-loop-again Inv-loop μ-loop
 loop-again c =
-    let l = c .before .before .before .before .before .before .before .before .before .args .t1 in
-    let at = c .before .before .before .before .before .before .before .before .loop in
+    let l = c .before .before .before .before .before .before .before .before .before .before .args .t1 in
+    let at = c .before .before .before .before .before .before .before .before .before .loop in
     let b = at .inv .2 in
-    let j = c .before .before .before .j .given in
-    let e = sym (c .before .before .before .before .before .judge .ensures (b .object) (b .ranked)) ∙ j .1 in
-    let z : at .i + 1 - 1 ≡ at .i = omega arith in (
+    let j = c .before .before .before .before .j .given in
+    let e = sym (c .before .before .before .before .before .before .judge .ensures (b .object) (b .ranked)) ∙ j .1 in
+    let z : at .i + 1 - 1 ≡ at .i = omega arith in
+    let clear = fine-word (l .words) (at .i) (b .object) (b .decoded) _ e in
+    let d = fine-object _ _ _ _ _ e in
+    let r = c .before .before .rank in (
       omega arith,
-      none-more (wordRows (l .words)) (at .i) (at .inv .1) (fine-word (l .words) (at .i) (b .object) (b .decoded) _ e),
+      none-more (wordRows (l .words)) (at .i) (at .inv .1) clear,
       record {
         object = j .0 .0;
-        ranked = record { rank = sym (c .before .rank .ensures); key = sym (c .key .ensures) };
-        decoded = λ h. ap (λ (k : ℕ). decodeOf (getD (l .words) k 0)) z ∙ fine-object _ _ _ _ _ e;
+        ranked = record { rank = sym (r .ensures); key = sym (c .before .key .ensures) };
+        decoded = λ h. ap (λ (k : ℕ). decodeOf (getD (l .words) k 0)) z ∙ d;
       },
+      subst (λ (p : ℕ). Alone (l .words) (at .i + 1) (r .result) p) (sym (c .avs-place .ensures))
+          (subst (λ (n : ℕ). Alone (l .words) (at .i + 1) n (cond (eqb n 3) (at .i + 1) (at .avs))) (sym (r .ensures))
+          (one-more (l .words) (at .i) (at .earlier) (at .low) (at .avs) (at .inv .3) b clear (j .0 .0) d)),
     )
 
 returns-2 : tie.Need-returns-2 Inv-loop μ-loop
 returns-2 c =
     let l = c .before .before .args .t1 in
     let at = c .before .loop in
-    let e : at .i ≡ l .count = omega arith in
-    sym (all-missed verdict success _ (subst (λ (n : ℕ). NoneApply (eachPlace (wordRows (l .words)) n)) e (at .inv .1)))
+    let e : at .i ≡ l .count = omega arith in (
+      sym (all-missed verdict success _ (subst (λ (n : ℕ). NoneApply (eachPlace (wordRows (l .words)) n)) e (at .inv .1))),
+      λ z. subst (λ (n : ℕ). OnlyAvs (l .words) n (at .avs)) e (at .inv .3 .only),
+    )
 
 pub judge-words-spec : {M : Type 1} → statement M
 judge-words-spec =
@@ -113,6 +135,7 @@ judge-words-spec =
     enum-known-j-2
     returns
     add-i
+    avs-place-requires
     loop-less
     loop-again
     returns-2)

@@ -35,17 +35,16 @@ judge-words-requires c κs = search needs
 
 returns-3 : tie.Need-returns-3
 returns-3 c =
-    let l = c .before .before .before .before .before .before .before .before .args .t1 in
-    let e = c .before .before .judge-words .ensures in
-    e ∙ sym (started (c .before .before .before) ∙ refused-so verdict _ (λ z. c .if4 .taken (ap (λ (v : Verdict). v .number) e ∙ z)) _)
+    let e = c .before .before .before .judge-words .ensures .0 in
+    e ∙ sym (started (c .before .before .before .before) ∙ refused-so verdict _ (λ z. c .before .if4 .taken (ap (λ (v : Verdict). v .number) e ∙ z)) _)
 
 judge-avs-requires : tie.Need-judge-avs-requires
-judge-avs-requires c κs = search needs
+judge-avs-requires c κs = (search needs, c .before .before .judge-words .ensures .1 (c .if4 .left))
 
 returns-4 : tie.Need-returns-4
 returns-4 c =
     let l = c .before .before .before .before .before .before .before .before .before .args .t1 in
-    let e = c .before .before .before .judge-words .ensures in
+    let e = c .before .before .before .judge-words .ensures .0 in
     c .judge-avs .ensures
     ∙ sym (started (c .before .before .before .before) ∙ all-missed verdict _ _
     (none-applied _ (words-numbered l) (sym (ap (λ (v : Verdict). v .number) e) ∙ c .before .if4 .left)))
