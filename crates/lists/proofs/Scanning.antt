@@ -4,10 +4,10 @@ use mathlib.Core.Path.{_≡_, refl, sym, ap, ap₂, _∙_}
 use mathlib.Core.Bool.{Bool, true, false, not, cond, _&&_, _||_, and-eq-true-iff}
 use mathlib.Core.List.{List, []}
 use mathlib.Core.Logic.{⊎-elim}
-use Prim.Native.Nat.{ℕ, zero, suc, _+_, _-_, _≤_, _<_}
+use Prim.Native.Nat.{ℕ, _+_, _-_, _≤_, _<_}
 use native.Mathlib.Nat.{eq-or-lt-of-le}
 use native.Mathlib.Omega.{arith}
-use lib.Dec.{ltb, leb, eqb}
+use lib.Dec.{ltb, eqb}
 use lib.ListN.{getD}
 use borrow.Author.Tests.{ltb-true, eqb-true, eqb-false, ne-eqb, not-false}
 use Rattle.steps.specs.declared.Ma10.{Ma10}
@@ -23,7 +23,6 @@ use Rattle.objects.specs.Decode.{decodeOf}
 use Rattle.lists.specs.ObjectRules.{rankOf, keyOf, keysMayFollow, mayFollow}
 use Rattle.lists.specs.Shape.{outOfOrder, wordRows, avsMatches, avsDiffers, avsRows}
 use Rattle.lists.specs.Reading.{objectOf}
-use Rattle.lists.specs.Judging.{Ranked}
 use Rattle.lists.specs.Scanning.{OnlyAvs}
 use Rattle.lists.proofs.Judging.{Before}
 

@@ -1,13 +1,10 @@
 -- `lists::object_rules::may_follow` meets its contract: the ranks decide, and within a rank the keys.
 -- Assumes nothing.
-use mathlib.Core.Path.{_≡_, refl, ap, ap₂, sym, _∙_, subst}
-use mathlib.Core.Bool.{Bool, true, false, _&&_, _||_}
-use Prim.Native.Nat.{ℕ, _<_, _≤_}
+use mathlib.Core.Path.{ap, sym, _∙_, subst}
+use Prim.Native.Nat.{ℕ}
 use native.Mathlib.Omega.{arith}
-use borrow.Author.Tests.{lt-ltb, le-ltb, eq-eqb, ne-eqb}
-use lib.Dec.{ltb, leb, eqb}
 use Rattle.objects.specs.declared.Object.{Object}
-use Rattle.lists.specs.ObjectRules.{rankOf, keyOf, keysMayFollow, mayFollow}
+use Rattle.lists.specs.ObjectRules.{keysMayFollow}
 use Rattle.lists.specs.Judging.{Follows}
 use Rattle.lists.proofs.Orders.{higher, lower, level}
 use borrow.Author.Needs.{needs}

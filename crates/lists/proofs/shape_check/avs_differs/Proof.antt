@@ -2,16 +2,14 @@
 -- Assumes nothing.
 use borrow.Author.Needs.{needs}
 use mathlib.Core.Path.{_≡_, ap, ap₂, sym, _∙_}
-use mathlib.Core.Bool.{Bool, not}
+use mathlib.Core.Bool.{not}
 use mathlib.Core.List.{List}
 use Prim.Native.Nat.{ℕ, _/_, _^_}
 use lib.Bits.{bitAnd}
-use Rattle.steps.specs.declared.Ma10.{Ma10}
-use Rattle.objects.specs.Bits.{bits}
 use Rattle.objects.specs.Asking.{ofObject}
 use Rattle.objects.specs.Decode.{decodeOf}
 use Rattle.objects.proofs.Taking.{taken, taken-low, taken-fits, low-fits}
-use Rattle.lists.specs.Shape.{hasFixed, avsMatches, avsDiffers}
+use Rattle.lists.specs.Shape.{avsMatches, avsDiffers}
 use Rattle.lists.proofs.Telling.{no-avs, an-avs}
 use Rattle.lists.proofs.Matching.{no-15-V, ends-at-15-V, by-20-V}
 use Rattle.lists.proofs.shape_check.avs_differs.Statement.{statement}

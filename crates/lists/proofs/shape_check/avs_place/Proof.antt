@@ -1,6 +1,6 @@
 -- `lists::shape_check::avs_place` meets its contract.
 -- Assumes nothing.
-use mathlib.Core.Path.{_≡_, ap, sym}
+use mathlib.Core.Path.{ap, sym}
 use mathlib.Core.Bool.{Bool, cond}
 use borrow.Author.Tests.{eq-eqb, ne-eqb}
 use Rattle.lists.proofs.shape_check.avs_place.Statement.{statement}

@@ -1,6 +1,6 @@
 -- `lists::shape_check::is_fixed_5_v` meets its contract: 5 V is 100 steps of 50 mV.
 -- Assumes nothing.
-use mathlib.Core.Path.{_≡_, ap, sym, _∙_}
+use mathlib.Core.Path.{ap, sym, _∙_}
 use Prim.Native.Nat.{ℕ}
 use native.Mathlib.Omega.{arith}
 use lib.Dec.{eqb}

@@ -1,7 +1,7 @@
 -- `lists::shape_check::judge_avs` meets its contract: no other word is AVS, so the one at the place decides.
 -- Assumes nothing.
 use borrow.Author.Needs.{needs}
-use mathlib.Core.Path.{_≡_, sym, _∙_}
+use mathlib.Core.Path.{sym, _∙_}
 use Rattle.lists.proofs.Scanning.{no-avs-word, avs-word-differs, avs-word-matches}
 use Rattle.lists.proofs.shape_check.judge_avs.Statement.{statement}
 use Rattle.lists.proofs.shape_check.judge_avs.Tie as tie

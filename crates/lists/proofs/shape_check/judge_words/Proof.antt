@@ -3,13 +3,12 @@
 use borrow.Author.Needs.{needs}
 use mathlib.Core.Path.{_≡_, refl, ap, sym, _∙_, subst}
 use mathlib.Core.Bool.{cond}
-use Prim.Native.Nat.{ℕ, _+_, _-_, _≤_, _<_}
+use Prim.Native.Nat.{ℕ, _+_, _-_, _≤_}
 use native.Mathlib.Omega.{arith}
 use lib.Dec.{eqb}
 use lib.ListN.{getD}
-use Rattle.verdicts.specs.Refusals.{eachPlace, verdict, success, verdictOf}
+use Rattle.verdicts.specs.Refusals.{eachPlace, verdict, success}
 use Rattle.verdicts.proofs.First.{NoneApply, none-yet, none-more, all-missed, decided}
-use Rattle.objects.specs.declared.Decoded.the-variants.{Known}
 use Rattle.objects.specs.Decode.{decodeOf}
 use Rattle.lists.specs.Shape.{wordRows}
 use Rattle.lists.specs.Scanning.{OnlyAvs}
