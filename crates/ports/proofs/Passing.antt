@@ -14,12 +14,12 @@ use Rattle.steps.proofs.RangeLaws.{at-least, at-most}
 use Rattle.rules.specs.Profiles.{badCable}
 use Rattle.requests.proofs.Answers.{answer-numbered}
 use Rattle.ports.specs.declared.Ports.{Ports}
-use Rattle.ports.specs.Rows.{rowOf, portRow, allHeld, othersHeld, heldAt}
+use Rattle.ports.specs.Rows.{rowOf, portRow, allHeld, othersHeld, heldAt, leftFor}
 use Rattle.ports.specs.Soundness.{soundRow}
 use Rattle.ports.specs.RuleLists.{ruleList}
 use Rattle.ports.specs.Refusing.{tableRefusals, freshRows, setUpRefusals, faultRows, sumFault, soundRefusals, remainingRefusals, noSuchPort, portRefusals, cannotAttach, attachRefusals, notAttached, useRefusals, noPowerNow, ownRefusals, requestRefusals}
 use Rattle.ports.proofs.Sound.{SoundAttached, sound-attached, cable-good}
-use Rattle.ports.proofs.Sums.{others-at-most}
+use Rattle.ports.proofs.Sums.{one-apart, others-at-most}
 
 module _ (capacity : ℕ) (t : Ports) where
   -- ---- every row has a number
@@ -105,6 +105,13 @@ module _ (capacity : ℕ) (t : Ports) where
     -- what the others hold and the own together stay within the capacity
     pub own-fits : othersHeld t port + heldAt t (port - 1) ≤ capacity
     own-fits = let a = others-at-most (port - 1) (heldAt t) (t .count) port-at in let b = sum-fits rows-pass in omega (arith, a, b)
+
+    pub own-of-all : heldAt t (port - 1) ≤ allHeld t
+    own-of-all = let a = others-at-most (port - 1) (heldAt t) (t .count) port-at in omega (arith, a)
+
+    -- what the others hold is all held less the own
+    pub left-is : capacity - (allHeld t - heldAt t (port - 1)) ≡ leftFor capacity t port
+    left-is = let a = one-apart (port - 1) (heldAt t) (t .count) port-at in omega (arith, a)
 
     pub row-sound : soundRow (portRow t port) ≡ true
     row-sound = sound-at rows-pass (port - 1) port-at

@@ -1,12 +1,12 @@
 // What each sharing call decides (01, "Ports that share").
 ghost use mathlib.Core.Path.{_≡_};
 ghost use mathlib.Core.Bool.{false};
-ghost use Prim.Native.Nat.{min};
+ghost use Prim.Native.Nat.{_-_, _≤_, min};
 ghost use Rattle.verdicts.specs.Refusals.{success, verdictOf};
 ghost use Rattle.rules.specs.Profiles.{badCable};
 ghost use Rattle.rules.specs.Building.{builtOf};
 ghost use Rattle.ports.specs.RuleLists.{rulePps, ruleProfile};
-ghost use Rattle.ports.specs.Rows.{offered, leftFor};
+ghost use Rattle.ports.specs.Rows.{allHeld, offered};
 ghost use Rattle.ports.specs.Refusing.{portRefusals};
 ghost use Rattle.ports.specs.Deciding.{noOffer, noChange, offering};
 ghost use Rattle.ports.specs.Promises.{SetsUp, Attaches, Advertises, Requests, Detaches, Remains};
@@ -16,10 +16,8 @@ use crate::Ports;
 use crate::RemainingPower;
 use crate::Row;
 use crate::emptied;
-use crate::held::all_held;
 use crate::held::holding_power;
 use crate::held::no_row;
-use crate::held::others_held;
 use crate::power::held_for;
 use crate::refusing::attach_fault;
 use crate::refusing::remaining_fault;
@@ -89,13 +87,12 @@ fn no_change(ports: Ports, verdict: Verdict) -> Change
     }
 }
 
-// Capacity less the other rows' held.
-fn left_for(ports: Ports, capacity: HalfWatts, port: u8) -> u32
-    requires { ⌜ verdictOf (portRefusals (capacity .0) ports port) ≡ success ⌝ }
-    ensures { λ r. ⌜ r ≡ leftFor (capacity .0) ports port ⌝ }
+// Capacity less the other rows' held, which is all held less the row's own.
+fn left_for(capacity: HalfWatts, all: u32, own: HalfWatts) -> u32
+    requires { ⌜ (own .0 ≤ all) × (all ≤ capacity .0) ⌝ }
+    ensures { λ r. ⌜ r ≡ capacity .0 - (all - own .0) ⌝ }
 {
-    let at = (port - 1) as usize;
-    (capacity.0 as u32) - others_held(ports, at)
+    (capacity.0 as u32) - (all - (own.0 as u32))
 }
 
 fn smaller(max: HalfWatts, left: u32) -> HalfWatts
@@ -107,9 +104,9 @@ fn smaller(max: HalfWatts, left: u32) -> HalfWatts
     max
 }
 
-// The row with this cable, its P anew, and its list.
-fn offer_row(ports: Ports, capacity: HalfWatts, port: u8, cable: u8) -> Offer
-    requires { ⌜ (verdictOf (portRefusals (capacity .0) ports port) ≡ success) × (badCable cable ≡ false) ⌝ }
+// The row with this cable, its P anew, and its list. The rows hold `all` together.
+fn offer_row(ports: Ports, all: u32, capacity: HalfWatts, port: u8, cable: u8) -> Offer
+    requires { ⌜ (verdictOf (portRefusals (capacity .0) ports port) ≡ success) × (badCable cable ≡ false) × (all ≡ allHeld ports) ⌝ }
     ensures { λ r. ⌜ r ≡ offering port (offered (capacity .0) ports port cable) ⌝ }
 {
     let rows = ports.rows;
@@ -117,7 +114,7 @@ fn offer_row(ports: Ports, capacity: HalfWatts, port: u8, cable: u8) -> Offer
     let old = rows[at];
     let max = old.max;
     let held = old.held;
-    let left = left_for(ports, capacity, port);
+    let left = left_for(capacity, all, held);
     let present = smaller(max, left);
     let row = Row {
         max,
@@ -139,31 +136,34 @@ pub fn set_up(ports: Ports, capacity: HalfWatts) -> Verdict
 pub fn attach(ports: Ports, capacity: HalfWatts, port: u8, cable: u8) -> Offer
     ensures { λ r. ⌜ Attaches ports capacity port cable r ⌝ }
 {
-    let fault = attach_fault(ports, capacity, port, cable);
+    let standing = attach_fault(ports, capacity, port, cable);
+    let fault = standing.fault;
     if fault.number != verdicts::SUCCESS {
         return no_offer(ports, fault);
     }
-    offer_row(ports, capacity, port, cable)
+    offer_row(ports, standing.held, capacity, port, cable)
 }
 
 pub fn advertise(ports: Ports, capacity: HalfWatts, port: u8) -> Offer
     ensures { λ r. ⌜ Advertises ports capacity port r ⌝ }
 {
-    let fault = use_fault(ports, capacity, port);
+    let standing = use_fault(ports, capacity, port);
+    let fault = standing.fault;
     if fault.number != verdicts::SUCCESS {
         return no_offer(ports, fault);
     }
     let rows = ports.rows;
     let at = (port - 1) as usize;
     let row = rows[at];
-    offer_row(ports, capacity, port, row.cable)
+    offer_row(ports, standing.held, capacity, port, row.cable)
 }
 
 // Judged on the list of the row's stored P.
 pub fn request(ports: Ports, capacity: HalfWatts, port: u8, word: u32) -> Change
     ensures { λ r. ⌜ Requests ports capacity port word r ⌝ }
 {
-    let fault = use_fault(ports, capacity, port);
+    let standing = use_fault(ports, capacity, port);
+    let fault = standing.fault;
     if fault.number != verdicts::SUCCESS {
         return no_change(ports, fault);
     }
@@ -178,7 +178,7 @@ pub fn request(ports: Ports, capacity: HalfWatts, port: u8, word: u32) -> Change
     }
     let present = row.present;
     let held = held_for(list, present, word);
-    let left = left_for(ports, capacity, port);
+    let left = left_for(capacity, standing.held, row.held);
     if left < held {
         let none = verdict_at(verdicts::NO_POWER_NOW, port);
         return no_change(ports, none);
@@ -195,7 +195,8 @@ pub fn request(ports: Ports, capacity: HalfWatts, port: u8, word: u32) -> Change
 pub fn detach(ports: Ports, capacity: HalfWatts, port: u8) -> Change
     ensures { λ r. ⌜ Detaches ports capacity port r ⌝ }
 {
-    let fault = use_fault(ports, capacity, port);
+    let standing = use_fault(ports, capacity, port);
+    let fault = standing.fault;
     if fault.number != verdicts::SUCCESS {
         return no_change(ports, fault);
     }
@@ -214,14 +215,15 @@ pub fn detach(ports: Ports, capacity: HalfWatts, port: u8) -> Change
 pub fn remaining(ports: Ports, capacity: HalfWatts) -> RemainingPower
     ensures { λ r. ⌜ Remains ports capacity r ⌝ }
 {
-    let fault = remaining_fault(ports, capacity);
+    let standing = remaining_fault(ports, capacity);
+    let fault = standing.fault;
     if fault.number != verdicts::SUCCESS {
         return RemainingPower {
             verdict: fault,
             power: HalfWatts(0),
         };
     }
-    let left = (capacity.0 as u32) - all_held(ports);
+    let left = (capacity.0 as u32) - standing.held;
     let verdict = verdict_at(verdicts::SUCCESS, 0);
     RemainingPower {
         verdict,

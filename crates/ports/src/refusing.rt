@@ -2,11 +2,13 @@
 ghost use mathlib.Core.Path.{_≡_};
 ghost use Rattle.verdicts.specs.Refusals.{verdictOf};
 ghost use Rattle.ports.specs.Refusing.{tableRefusals, setUpRefusals, remainingRefusals, portRefusals, attachRefusals, useRefusals};
+ghost use Rattle.ports.specs.Standing.{standingOf};
 use crate::Ports;
-use crate::held::all_held;
+use crate::soundness::Standing;
+use crate::soundness::at_fault;
 use crate::soundness::bad_cable;
 use crate::soundness::fresh_fault;
-use crate::soundness::row_fault;
+use crate::soundness::stand;
 use crate::soundness::verdict_at;
 use steps::HalfWatts;
 use verdicts::Verdict;
@@ -42,73 +44,73 @@ pub(crate) fn set_up_fault(ports: Ports, capacity: HalfWatts) -> Verdict
 }
 
 // 30, 32, 37: a row at fault comes before the sum.
-pub(crate) fn remaining_fault(ports: Ports, capacity: HalfWatts) -> Verdict
-    ensures { λ r. ⌜ r ≡ verdictOf (remainingRefusals (capacity .0) ports) ⌝ }
+pub(crate) fn remaining_fault(ports: Ports, capacity: HalfWatts) -> Standing
+    ensures { λ r. ⌜ r ≡ standingOf (remainingRefusals (capacity .0) ports) ports ⌝ }
 {
     let table = table_fault(ports, capacity);
     if table.number != verdicts::SUCCESS {
-        return table;
+        return at_fault(table.number, table.place);
     }
-    let row = row_fault(ports);
-    if row.number != verdicts::SUCCESS {
-        return row;
+    let rows = stand(ports);
+    if rows.fault.number != verdicts::SUCCESS {
+        return rows;
     }
-    if (capacity.0 as u32) < all_held(ports) {
-        return verdict_at(verdicts::ROWS_NOT_SOUND, 0);
+    if (capacity.0 as u32) < rows.held {
+        return at_fault(verdicts::ROWS_NOT_SOUND, 0);
     }
-    verdict_at(verdicts::SUCCESS, 0)
+    rows
 }
 
 // .. then 33.
-fn port_fault(ports: Ports, capacity: HalfWatts, port: u8) -> Verdict
-    ensures { λ r. ⌜ r ≡ verdictOf (portRefusals (capacity .0) ports port) ⌝ }
+fn port_fault(ports: Ports, capacity: HalfWatts, port: u8) -> Standing
+    ensures { λ r. ⌜ r ≡ standingOf (portRefusals (capacity .0) ports port) ports ⌝ }
 {
     let rows = remaining_fault(ports, capacity);
-    if rows.number != verdicts::SUCCESS {
+    if rows.fault.number != verdicts::SUCCESS {
         return rows;
     }
     if port < 1 {
-        return verdict_at(verdicts::NO_SUCH_PORT, 0);
+        return at_fault(verdicts::NO_SUCH_PORT, 0);
     }
     if ports.count < (port as usize) {
-        return verdict_at(verdicts::NO_SUCH_PORT, 0);
+        return at_fault(verdicts::NO_SUCH_PORT, 0);
     }
-    verdict_at(verdicts::SUCCESS, 0)
+    rows
 }
 
 // .. then 3 and 34.
-pub(crate) fn attach_fault(ports: Ports, capacity: HalfWatts, port: u8, cable: u8) -> Verdict
-    ensures { λ r. ⌜ r ≡ verdictOf (attachRefusals (capacity .0) ports port cable) ⌝ }
+pub(crate) fn attach_fault(ports: Ports, capacity: HalfWatts, port: u8, cable: u8) -> Standing
+    ensures { λ r. ⌜ r ≡ standingOf (attachRefusals (capacity .0) ports port cable) ports ⌝ }
 {
     let named = port_fault(ports, capacity, port);
-    if named.number != verdicts::SUCCESS {
+    if named.fault.number != verdicts::SUCCESS {
         return named;
     }
     if bad_cable(cable) {
-        return verdict_at(verdicts::CABLE, 0);
+        return at_fault(verdicts::CABLE, 0);
     }
     let rows = ports.rows;
     let at = (port - 1) as usize;
     let row = rows[at];
     if row.cable != 0 {
-        return verdict_at(verdicts::PORT_IN_USE, port);
+        return at_fault(verdicts::PORT_IN_USE, port);
     }
-    verdict_at(verdicts::SUCCESS, 0)
+    named
 }
 
 // .. or 35.
-pub(crate) fn use_fault(ports: Ports, capacity: HalfWatts, port: u8) -> Verdict
-    ensures { λ r. ⌜ r ≡ verdictOf (useRefusals (capacity .0) ports port) ⌝ }
+pub(crate) fn use_fault(ports: Ports, capacity: HalfWatts, port: u8) -> Standing
+    ensures { λ r. ⌜ r ≡ standingOf (useRefusals (capacity .0) ports port) ports ⌝ }
 {
     let named = port_fault(ports, capacity, port);
-    if named.number != verdicts::SUCCESS {
+    if named.fault.number != verdicts::SUCCESS {
         return named;
     }
     let rows = ports.rows;
     let at = (port - 1) as usize;
     let row = rows[at];
     if row.cable == 0 {
-        return verdict_at(verdicts::PORT_NOT_ATTACHED, port);
+        return at_fault(verdicts::PORT_NOT_ATTACHED, port);
     }
-    verdict_at(verdicts::SUCCESS, 0)
+    named
 }

@@ -5,14 +5,30 @@ ghost use Rattle.verdicts.specs.Refusals.{verdict, eachPlace, verdictOf};
 ghost use Rattle.rules.specs.Profiles.{badCable};
 ghost use Rattle.ports.specs.Soundness.{soundEmpty, soundAttached, soundRow};
 ghost use Rattle.ports.specs.Refusing.{freshRow, freshRows, faultRows};
+ghost use Rattle.ports.specs.Standing.{atFault, standingOf};
 use crate::Ports;
 use crate::Row;
 use verdicts::Verdict;
+
+// The first refusal and 0, or success and what all rows hold together.
+pub(crate) struct Standing {
+    pub(crate) fault: Verdict,
+    pub(crate) held: u32,
+}
 
 pub(crate) fn verdict_at(number: u8, place: u8) -> Verdict
     ensures { λ r. ⌜ r ≡ verdict number place ⌝ }
 {
     Verdict { number, place }
+}
+
+pub(crate) fn at_fault(number: u8, place: u8) -> Standing
+    ensures { λ r. ⌜ r ≡ atFault number place ⌝ }
+{
+    Standing {
+        fault: Verdict { number, place },
+        held: 0,
+    }
 }
 
 pub(crate) fn bad_cable(amperes: u8) -> bool
@@ -66,22 +82,25 @@ pub(crate) fn sound_row(row: Row) -> bool
     sound_attached(row)
 }
 
-// The first row at fault.
-pub(crate) fn row_fault(ports: Ports) -> Verdict
+// The first row at fault, or what the rows hold together: each is below 2^16, so eight of them fit.
+pub(crate) fn stand(ports: Ports) -> Standing
     requires { ⌜ ports .count ≤ 8 ⌝ }
-    ensures { λ r. ⌜ r ≡ verdictOf (eachPlace (faultRows ports) (ports .count)) ⌝ }
+    ensures { λ r. ⌜ r ≡ standingOf (eachPlace (faultRows ports) (ports .count)) ports ⌝ }
 {
     let rows = ports.rows;
     let count = ports.count;
+    let mut held: u32 = 0;
     let mut i: usize = 0;
     while i < count {
         let row = rows[i];
         if !sound_row(row) {
-            return verdict_at(verdicts::ROWS_NOT_SOUND, (i + 1) as u8);
+            return at_fault(verdicts::ROWS_NOT_SOUND, (i + 1) as u8);
         }
+        held += row.held.0 as u32;
         i += 1;
     }
-    verdict_at(verdicts::SUCCESS, 0)
+    let fault = verdict_at(verdicts::SUCCESS, 0);
+    Standing { fault, held }
 }
 
 // What set-up looks at in one row: 31, then 4.

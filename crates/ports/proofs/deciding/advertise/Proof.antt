@@ -1,15 +1,31 @@
 -- `ports::deciding::advertise` meets its contract.
 -- Assumes nothing.
-use mathlib.Core.Path.{sym, _∙_}
+use mathlib.Core.Path.{_≡_, sym, _∙_}
 use native.Mathlib.Omega.{arith}
+use Rattle.verdicts.specs.Refusals.{verdictOf}
+use Rattle.verdicts.proofs.First.{NoneApply, all-missed}
 use Rattle.ports.specs.Rows.{portRow, offered}
 use Rattle.ports.specs.Refusing.{useRefusals}
 use Rattle.ports.specs.Deciding.{noOffer, offering, advertiseOffer}
 use Rattle.ports.proofs.Passing.{use-numbered, use-port, cable-kept, port-succeeds, port-low, port-at, eight-rows}
-use Rattle.ports.proofs.Judged.{clear, decides, lets-pass}
+use Rattle.ports.proofs.Judged.{clear, decides, fault-is, held-is}
 use borrow.Author.Needs.{needs}
 use Rattle.ports.proofs.deciding.advertise.Statement.{statement}
 use Rattle.ports.proofs.deciding.advertise.Tie as tie
+
+judged : (c : tie.After-use-fault) → c .use-fault .result .fault ≡ verdictOf (useRefusals (c .before .args .capacity .0) (c .before .args .ports)
+    (c .before .args .port))
+judged c =
+    let x = c .before .args in
+    fault-is (useRefusals (x .capacity .0) (x .ports) (x .port)) (x .ports) _ (c .use-fault .ensures)
+
+-- past the port
+passed : (c : tie.Else1) → NoneApply (useRefusals (c .before .before .before .before .args .capacity .0)
+    (c .before .before .before .before .args .ports) (c .before .before .before .before .args .port))
+passed c =
+    let x = c .before .before .before .before .args in
+    clear (useRefusals (x .capacity .0) (x .ports) (x .port)) _ (judged (c .before .before .before)) (use-numbered (x .capacity .0) (x .ports)
+    (x .port)) (c .if1 .left)
 
 use-fault-requires : tie.Need-use-fault-requires
 use-fault-requires c κs = search needs
@@ -20,21 +36,15 @@ no-offer-requires c κs = search needs
 returns : tie.Need-returns
 unfolding advertiseOffer
 returns c =
-    let x = c .before .before .before .before .args in
+    let x = c .before .before .before .before .before .args in
     c .no-offer .ensures
-    ∙ sym (decides (useRefusals (c .before .before .before .before .args .capacity .0) (c .before .before .before .before .args .ports)
-    (c .before .before .before .before .args .port)) _ (c .before .before .before .use-fault .ensures) (noOffer (x .ports)) (offering
-    (x .port) (offered (c .before .before .before .before .args .capacity .0) (c .before .before .before .before .args .ports)
-    (c .before .before .before .before .args .port) (portRow (x .ports) (x .port) .cable))) (c .before .if1 .taken))
+    ∙ sym (decides (useRefusals (x .capacity .0) (x .ports) (x .port)) _ (judged (c .before .before .before .before)) (noOffer (x .ports))
+    (offering (x .port) (offered (x .capacity .0) (x .ports) (x .port) (portRow (x .ports) (x .port) .cable))) (c .before .if1 .taken))
 
 sub-at : tie.Need-sub-at
-sub-at c = port-low (c .before .before .before .before .args .capacity .0) (c .before .before .before .before .args .ports)
-    (c .before .before .before .before .args .port) (use-port (c .before .before .before .before .args .capacity .0)
-    (c .before .before .before .before .args .ports) (c .before .before .before .before .args .port) (clear (useRefusals
-    (c .before .before .before .before .args .capacity .0) (c .before .before .before .before .args .ports)
-    (c .before .before .before .before .args .port)) _ (c .before .before .before .use-fault .ensures) (use-numbered
-    (c .before .before .before .before .args .capacity .0) (c .before .before .before .before .args .ports)
-    (c .before .before .before .before .args .port)) (c .before .if1 .left)))
+sub-at c =
+    let x = c .before .before .before .before .before .args in
+    port-low (x .capacity .0) (x .ports) (x .port) (use-port (x .capacity .0) (x .ports) (x .port) (passed (c .before)))
 
 cast-at : tie.Need-cast-at
 cast-at c = search needs
@@ -44,44 +54,30 @@ mul-row c = search needs
 
 array-copy-out-row : tie.Need-array-copy-out-row
 array-copy-out-row c =
-    let x = use-port (c .before .before .before .before .args .capacity .0) (c .before .before .before .before .args .ports)
-    (c .before .before .before .before .args .port) (clear (useRefusals (c .before .before .before .before .args .capacity .0)
-    (c .before .before .before .before .args .ports) (c .before .before .before .before .args .port)) _
-    (c .before .before .before .use-fault .ensures) (use-numbered (c .before .before .before .before .args .capacity .0)
-    (c .before .before .before .before .args .ports) (c .before .before .before .before .args .port)) (c .before .if1 .left)) in
-    let a = port-at (c .before .before .before .before .args .capacity .0) (c .before .before .before .before .args .ports)
-    (c .before .before .before .before .args .port) x in
-    let b = eight-rows (c .before .before .before .before .args .capacity .0) (c .before .before .before .before .args .ports)
-    (c .before .before .before .before .args .port) x in
+    let x = c .before .before .before .before .before .args in
+    let n = use-port (x .capacity .0) (x .ports) (x .port) (passed (c .before)) in
+    let a = port-at (x .capacity .0) (x .ports) (x .port) n in
+    let b = eight-rows (x .capacity .0) (x .ports) (x .port) n in
     omega (arith, a, b)
 
 offer-row-requires : tie.Need-offer-row-requires
 offer-row-requires c κs =
-    let n = clear (useRefusals (c .before .before .before .before .before .args .capacity .0)
-    (c .before .before .before .before .before .args .ports) (c .before .before .before .before .before .args .port)) _
-    (c .before .before .before .before .use-fault .ensures) (use-numbered (c .before .before .before .before .before .args .capacity .0)
-    (c .before .before .before .before .before .args .ports) (c .before .before .before .before .before .args .port))
-    (c .before .before .if1 .left) in (
-      port-succeeds (c .before .before .before .before .before .args .capacity .0) (c .before .before .before .before .before .args .ports)
-          (c .before .before .before .before .before .args .port) (use-port (c .before .before .before .before .before .args .capacity .0)
-          (c .before .before .before .before .before .args .ports) (c .before .before .before .before .before .args .port) n),
-      cable-kept
-          (c .before .before .before .before .before .args .capacity .0) (c .before .before .before .before .before .args .ports)
-          (c .before .before .before .before .before .args .port) n,
+    let p = c .before .before in
+    let x = p .before .before .before .before .args in (
+      port-succeeds (x .capacity .0) (x .ports) (x .port) (use-port (x .capacity .0) (x .ports) (x .port) (passed p)),
+      cable-kept (x .capacity .0) (x .ports) (x .port) (passed p),
+      held-is (useRefusals (x .capacity .0) (x .ports) (x .port)) (x .ports) _ (p .before .before .before .use-fault .ensures) (use-numbered
+          (x .capacity .0) (x .ports) (x .port)) (p .if1 .left),
     )
 
 returns-2 : tie.Need-returns-2
 unfolding advertiseOffer
 returns-2 c =
-    let x = c .before .before .before .before .before .before .args in
+    let p = c .before .before .before in
+    let x = p .before .before .before .before .args in
     c .offer-row .ensures
-    ∙ sym (lets-pass (useRefusals (c .before .before .before .before .before .before .args .capacity .0)
-    (c .before .before .before .before .before .before .args .ports) (c .before .before .before .before .before .before .args .port)) _
-    (c .before .before .before .before .before .use-fault .ensures) (noOffer (x .ports)) (offering (x .port) (offered
-    (c .before .before .before .before .before .before .args .capacity .0) (c .before .before .before .before .before .before .args .ports)
-    (c .before .before .before .before .before .before .args .port) (portRow (x .ports) (x .port) .cable))) (use-numbered
-    (c .before .before .before .before .before .before .args .capacity .0) (c .before .before .before .before .before .before .args .ports)
-    (c .before .before .before .before .before .before .args .port)) (c .before .before .before .if1 .left))
+    ∙ sym (all-missed (noOffer (x .ports)) (offering (x .port) (offered (x .capacity .0) (x .ports) (x .port) (portRow (x .ports) (x .port)
+    .cable))) (useRefusals (x .capacity .0) (x .ports) (x .port)) (passed p))
 
 pub advertise-spec : {M : Type 1} → statement M
 advertise-spec =

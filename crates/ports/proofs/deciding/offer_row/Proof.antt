@@ -8,9 +8,9 @@ use Rattle.lists.specs.declared.Listing.{Listing}
 use Rattle.rules.specs.Building.{builtOf}
 use Rattle.ports.specs.declared.Row.{Row}
 use Rattle.rules.specs.Profiles.{halfWatts}
-use Rattle.ports.specs.Rows.{portRow, presentFor, offered}
+use Rattle.ports.specs.Rows.{portRow, heldAt, leftFor, presentFor, offered}
 use Rattle.ports.specs.RuleLists.{ruleProfile}
-use Rattle.ports.proofs.Passing.{port-clear, port-low, port-at, eight-rows}
+use Rattle.ports.proofs.Passing.{port-clear, port-low, port-at, eight-rows, rows-pass, sum-fits, own-of-all, left-is}
 use Rattle.ports.proofs.Offering.{list-offered}
 use borrow.Author.Needs.{needs}
 use Rattle.ports.proofs.deciding.offer_row.Statement.{statement}
@@ -18,6 +18,16 @@ use Rattle.ports.proofs.deciding.offer_row.Tie as tie
 
 abbrev made : ℕ → Row → HalfWatts → Row
 made cable y p = record { max = y .max; pps = y .pps; cable = cable; present = p; held = y .held }
+
+-- what is left by the sum is what the others leave
+left-so : (c : tie.After-left-for) → c .left-for .result ≡ leftFor (c .before .before .before .before .before .args .capacity .0)
+    (c .before .before .before .before .before .args .ports) (c .before .before .before .before .before .args .port)
+left-so c =
+    let s = c .before .before .before .before .before in
+    let x = s .args in
+    c .left-for .ensures
+    ∙ ap (λ (n : ℕ). x .capacity .0 - (n - heldAt (x .ports) (x .port - 1))) (s .pre .2)
+    ∙ left-is (x .capacity .0) (x .ports) (x .port) (port-clear (x .capacity .0) (x .ports) (x .port) (s .pre .0))
 
 -- the row with the P that was worked out is the one offered
 row-is : (c : tie.After-smaller) → made (c .before .before .before .before .before .before .args .cable) (portRow
@@ -31,7 +41,7 @@ row-is c =
     (c .before .before .before .before .before .before .args .ports) (c .before .before .before .before .before .before .args .port))
     (halfWatts n))
     (c .smaller .ensures ∙ ap (min (portRow (c .before .before .before .before .before .before .args .ports)
-    (c .before .before .before .before .before .before .args .port) .max .0)) (c .before .left-for .ensures))
+    (c .before .before .before .before .before .before .args .port) .max .0)) (left-so (c .before)))
 
 sub-at : tie.Need-sub-at
 sub-at c = port-low (c .before .args .capacity .0) (c .before .args .ports) (c .before .args .port) (port-clear (c .before .args .capacity .0)
@@ -51,7 +61,14 @@ array-copy-out-old c =
     omega (arith, a, b)
 
 left-for-requires : tie.Need-left-for-requires
-left-for-requires c κs = c .before .before .before .before .pre .0
+left-for-requires c κs =
+    let s = c .before .before .before .before in
+    let x = s .args in
+    let n = port-clear (x .capacity .0) (x .ports) (x .port) (s .pre .0) in
+    let a = own-of-all (x .capacity .0) (x .ports) (x .port) n in
+    let b = sum-fits (x .capacity .0) (x .ports) (rows-pass (x .capacity .0) (x .ports) (x .port) n) in
+    let e = s .pre .2 in
+    (omega (arith, a, e), omega (arith, b, e))
 
 smaller-requires : tie.Need-smaller-requires
 smaller-requires c κs = search needs

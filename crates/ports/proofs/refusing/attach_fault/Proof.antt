@@ -5,25 +5,33 @@ use mathlib.Core.Bool.{not}
 use mathlib.Core.List.{[]}
 use native.Mathlib.Omega.{arith}
 use borrow.Author.Tests.{eq-eqb, ne-eqb}
-use Rattle.verdicts.specs.Refusals.{verdict, success, verdictOf}
-use Rattle.verdicts.proofs.First.{hit, miss, all-missed}
+use Rattle.verdicts.proofs.First.{NoneApply, hit, miss, all-missed}
 use Rattle.ports.specs.Rows.{portRow}
 use Rattle.ports.specs.Refusing.{portRefusals, cannotAttach, attachRefusals}
+use Rattle.ports.specs.Standing.{atFault, allTogether, standingOf}
 use Rattle.ports.proofs.Passing.{port-numbered, port-low, port-at, eight-rows}
-use Rattle.ports.proofs.Judged.{clear, stops-at, moves-on}
+use Rattle.ports.proofs.Judged.{clear, fault-is, sum-is, stays, next}
 use borrow.Author.Needs.{needs}
 use Rattle.ports.proofs.refusing.attach_fault.Statement.{statement}
 use Rattle.ports.proofs.refusing.attach_fault.Tie as tie
 
-past-port : (c : tie.Else1) → verdictOf (attachRefusals (c .before .before .before .args .capacity .0) (c .before .before .before .args .ports)
-    (c .before .before .before .args .port) (c .before .before .before .args .cable)) ≡ verdictOf (cannotAttach
-    (c .before .before .before .args .ports) (c .before .before .before .args .port) (c .before .before .before .args .cable))
+-- past the port
+passed : (c : tie.Else1) → NoneApply (portRefusals (c .before .before .before .args .capacity .0) (c .before .before .before .args .ports)
+    (c .before .before .before .args .port))
+passed c =
+    let x = c .before .before .before .args in
+    let rs = portRefusals (x .capacity .0) (x .ports) (x .port) in
+    clear rs _ (fault-is rs (x .ports) _ (c .before .before .port-fault .ensures)) (port-numbered (x .capacity .0) (x .ports) (x .port))
+    (c .if1 .left)
+
+past-port : (c : tie.Else1) → standingOf (attachRefusals (c .before .before .before .args .capacity .0) (c .before .before .before .args .ports)
+    (c .before .before .before .args .port) (c .before .before .before .args .cable)) (c .before .before .before .args .ports) ≡ standingOf
+    (cannotAttach (c .before .before .before .args .ports) (c .before .before .before .args .port) (c .before .before .before .args .cable))
+    (c .before .before .before .args .ports)
 past-port c =
-    moves-on (portRefusals (c .before .before .before .args .capacity .0) (c .before .before .before .args .ports)
-    (c .before .before .before .args .port)) _ (c .before .before .port-fault .ensures) verdict success (cannotAttach
-    (c .before .before .before .args .ports) (c .before .before .before .args .port) (c .before .before .before .args .cable))
-    (port-numbered (c .before .before .before .args .capacity .0) (c .before .before .before .args .ports)
-    (c .before .before .before .args .port)) (c .if1 .left)
+    let x = c .before .before .before .args in
+    next (portRefusals (x .capacity .0) (x .ports) (x .port)) (x .ports) _ (c .before .before .port-fault .ensures) (cannotAttach
+    (x .ports) (x .port) (x .cable)) (port-numbered (x .capacity .0) (x .ports) (x .port)) (c .if1 .left)
 
 port-fault-requires : tie.Need-port-fault-requires
 port-fault-requires c κs = search needs
@@ -31,25 +39,24 @@ port-fault-requires c κs = search needs
 returns : tie.Need-returns
 returns c =
     let x = c .before .before .before .args in
-    sym (stops-at (portRefusals (x .capacity .0) (x .ports) (x .port)) _ (c .before .before .port-fault .ensures) verdict success (cannotAttach
-    (x .ports) (x .port) (x .cable)) (c .if1 .taken))
+    stays (portRefusals (x .capacity .0) (x .ports) (x .port)) (x .ports) _ (c .before .before .port-fault .ensures) (cannotAttach
+    (x .ports) (x .port) (x .cable)) (c .if1 .taken)
 
 bad-cable-requires : tie.Need-bad-cable-requires
 bad-cable-requires c κs = search needs
 
-verdict-at-requires : tie.Need-verdict-at-requires
-verdict-at-requires c κs = search needs
+at-fault-requires : tie.Need-at-fault-requires
+at-fault-requires c κs = search needs
 
 returns-2 : tie.Need-returns-2
-returns-2 c = c .verdict-at .ensures ∙ sym (past-port (c .before .before .before)
-    ∙ hit verdict success 3 0 _ (sym (c .before .before .bad-cable .ensures) ∙ c .before .if2 .taken))
+returns-2 c = c .at-fault .ensures ∙ sym (past-port (c .before .before .before)
+    ∙ hit atFault _ 3 0 _ (sym (c .before .before .bad-cable .ensures) ∙ c .before .if2 .taken))
 
 sub-at : tie.Need-sub-at
 sub-at c =
-    let x = c .before .before .before .before .before .before .args in
-    port-low (x .capacity .0) (x .ports) (x .port) (clear (portRefusals (x .capacity .0) (x .ports) (x .port)) _
-    (c .before .before .before .before .before .port-fault .ensures) (port-numbered (x .capacity .0) (x .ports) (x .port))
-    (c .before .before .before .if1 .left))
+    let p = c .before .before .before in
+    let x = p .before .before .before .args in
+    port-low (x .capacity .0) (x .ports) (x .port) (passed p)
 
 cast-at : tie.Need-cast-at
 cast-at c = search needs
@@ -59,37 +66,37 @@ mul-row c = search needs
 
 array-copy-out-row : tie.Need-array-copy-out-row
 array-copy-out-row c =
-    let x = c .before .before .before .before .before .before .args in
-    let p = clear (portRefusals (x .capacity .0) (x .ports) (x .port)) _ (c .before .before .before .before .before .port-fault .ensures)
-    (port-numbered (x .capacity .0) (x .ports) (x .port)) (c .before .before .before .if1 .left) in
-    let a = port-at (x .capacity .0) (x .ports) (x .port) p in
-    let b = eight-rows (x .capacity .0) (x .ports) (x .port) p in
+    let p = c .before .before .before in
+    let x = p .before .before .before .args in
+    let a = port-at (x .capacity .0) (x .ports) (x .port) (passed p) in
+    let b = eight-rows (x .capacity .0) (x .ports) (x .port) (passed p) in
     omega (arith, a, b)
 
-verdict-at-requires-2 : tie.Need-verdict-at-requires-2
-verdict-at-requires-2 c κs = search needs
+at-fault-requires-2 : tie.Need-at-fault-requires-2
+at-fault-requires-2 c κs = search needs
 
 returns-3 : tie.Need-returns-3
 returns-3 c =
-    let x = c .before .before .before .before .before .before .before .before .before .before .args in
-    c .verdict-at2 .ensures
-    ∙ sym (past-port (c .before .before .before .before .before .before .before)
-    ∙ miss verdict success 3 0 _ (sym (c .before .before .before .before .before .before .bad-cable .ensures)
+    let p = c .before .before .before .before .before .before .before in
+    let x = p .before .before .before .args in
+    c .at-fault2 .ensures
+    ∙ sym (past-port p
+    ∙ miss atFault _ 3 0 _ (sym (c .before .before .before .before .before .before .bad-cable .ensures)
     ∙ c .before .before .before .before .before .if2 .left)
-    ∙ hit verdict success 34 _ [] (ap not (ne-eqb (portRow (x .ports) (x .port) .cable) 0 (c .before .if3 .taken))))
-
-verdict-at-requires-3 : tie.Need-verdict-at-requires-3
-verdict-at-requires-3 c κs = search needs
+    ∙ hit atFault _ 34 _ [] (ap not (ne-eqb (portRow (x .ports) (x .port) .cable) 0 (c .before .if3 .taken))))
 
 returns-4 : tie.Need-returns-4
 returns-4 c =
-    let x = c .before .before .before .before .before .before .before .before .before .before .args in
-    c .verdict-at3 .ensures
-    ∙ sym (past-port (c .before .before .before .before .before .before .before)
-    ∙ miss verdict success 3 0 _ (sym (c .before .before .before .before .before .before .bad-cable .ensures)
-    ∙ c .before .before .before .before .before .if2 .left)
-    ∙ miss verdict success 34 (x .port) [] (ap not (eq-eqb (portRow (x .ports) (x .port) .cable) 0 (c .before .if3 .left)))
-    ∙ all-missed verdict success [] tt)
+    let p = c .before .before .before .before .before .before in
+    let x = p .before .before .before .args in
+    let t = x .ports in
+    sum-is (portRefusals (x .capacity .0) t (x .port)) t _ (p .before .before .port-fault .ensures) (port-numbered (x .capacity .0) t (x .port))
+    (p .if1 .left)
+    ∙ sym (past-port p
+    ∙ miss atFault (allTogether t) 3 0 _ (sym (c .before .before .before .before .before .bad-cable .ensures)
+    ∙ c .before .before .before .before .if2 .left)
+    ∙ miss atFault (allTogether t) 34 (x .port) [] (ap not (eq-eqb (portRow t (x .port) .cable) 0 (c .if3 .left)))
+    ∙ all-missed atFault (allTogether t) [] tt)
 
 pub attach-fault-spec : {M : Type 1} → statement M
 attach-fault-spec =
@@ -98,13 +105,12 @@ attach-fault-spec =
     port-fault-requires
     returns
     bad-cable-requires
-    verdict-at-requires
+    at-fault-requires
     returns-2
     sub-at
     cast-at
     mul-row
     array-copy-out-row
-    verdict-at-requires-2
+    at-fault-requires-2
     returns-3
-    verdict-at-requires-3
     returns-4)
