@@ -35,8 +35,8 @@ use Rattle.requests.proofs.AvsLimits.{limit-below, limit-above, limit-at}
 use Rattle.ports.specs.declared.Row.{Row}
 use Rattle.ports.specs.RuleLists.{ruleProfile, ruleList}
 use Rattle.ports.specs.Requests.{halfWattsFor, cutFor, powerIn, powerOf, heldFor, newHeld}
-use Rattle.demands.proofs.Slots.{slotGood}
-use Rattle.demands.proofs.BuiltPasses.{good, known}
+use Rattle.rules.proofs.Slots.{slotGood}
+use Rattle.rules.proofs.BuiltPasses.{good, known}
 use Rattle.ports.proofs.RuleLists.{Offerable, rule-profile-passes, rule-list-is}
 
 -- ---- voltage times current

@@ -59,6 +59,7 @@ use Rattle.requests.specs.declared.Asked.{Asked}
 use Rattle.requests.proofs.position.Reads as position
 use Rattle.requests.proofs.take_apart.Reads as take-apart
 use Rattle.requests.proofs.answer.Reads as answer
+use Rattle.requests.proofs.answer_shaped.Reads as answer-shaped
 use Rattle.ports.specs.declared.Row.{Row}
 use Rattle.ports.specs.declared.Ports.{Ports}
 use Rattle.ports.specs.declared.Offer.{Offer}
@@ -176,6 +177,9 @@ TakeApartAnswers o w r = take-apart.Post tt (o, (w, tt)) r (o, (w, tt))
 
 abbrev pub AnswerAnswers : Words → ℕ → Verdict → Type 0
 AnswerAnswers l w r = answer.Post tt (l, (w, tt)) r (l, (w, tt))
+
+abbrev pub AnswerShapedAnswers : Words → ℕ → Verdict → Type 0
+AnswerShapedAnswers l w r = answer-shaped.Post tt (l, (w, tt)) r (l, (w, tt))
 
 -- ---- ports
 

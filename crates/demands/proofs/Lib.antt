@@ -4,10 +4,6 @@ pub mod SharingRefusals
 pub mod RoundTrips
 pub mod Unread
 pub mod OneOutcome
-pub mod Slots
-pub mod Built
-pub mod BuiltCurrents
-pub mod BuiltPasses
 pub mod PowerRules
 pub mod RuleLists
 pub mod AcceptedPower

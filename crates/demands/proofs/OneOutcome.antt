@@ -14,7 +14,7 @@ use Rattle.demands.proofs.Contracts.{ShapeAnswers, ReadAnswers, WriteAn
 use Rattle.rules.specs.declared.Profile.{Profile}
 use Rattle.demands.proofs.Contracts.{DefaultAnswers, BuildAnswers, CheckAnswers}
 use Rattle.lists.specs.declared.Words.{Words}
-use Rattle.demands.proofs.Contracts.{PositionAnswers, TakeApartAnswers, AnswerAnswers}
+use Rattle.demands.proofs.Contracts.{PositionAnswers, TakeApartAnswers, AnswerAnswers, AnswerShapedAnswers}
 use mathlib.Core.List.{List}
 use Rattle.steps.specs.declared.HalfWatts.{HalfWatts}
 use Rattle.verdicts.specs.declared.Verdict.{Verdict}
@@ -133,6 +133,9 @@ take-apart-settles o w r s e f = only e f
 
 pub answer-settles : (l : Words) → Settled (AnswerAnswers l)
 answer-settles l w r s e f = only e f
+
+pub answer-shaped-settles : (l : Words) → Settled (AnswerShapedAnswers l)
+answer-shaped-settles l w r s e f = only e f
 
 -- ---- ports, by value
 

@@ -29,7 +29,7 @@ use Rattle.rules.specs.Checking.{checkRefusals, checkedOf}
 use Rattle.rules.proofs.Allowed.{at-20-V, above-3-A, up-to-3-A}
 use Rattle.rules.proofs.Builds.{build-numbered, build-verdict, build-clear}
 use Rattle.rules.proofs.Checks.{check-verdict}
-use Rattle.demands.proofs.BuiltPasses.{shape-clear, check-clear, built-counts, built-fits}
+use Rattle.rules.proofs.BuiltPasses.{shape-clear, check-clear, built-counts, built-fits}
 use Rattle.demands.proofs.Contracts.{ReadAnswers, WriteAnswers, BuildAnswers, CheckAnswers}
 
 -- ---- what is built

@@ -35,9 +35,9 @@ use Rattle.rules.specs.Checking.{checkRefusals}
 use Rattle.rules.proofs.Defaults.{default-verdict, default-empty}
 use Rattle.rules.proofs.Builds.{build-numbered, build-verdict, build-empty}
 use Rattle.rules.proofs.Checks.{check-numbered, check-verdict}
-use Rattle.requests.specs.Answering.{answerRefusals}
-use Rattle.requests.proofs.Answers.{answer-numbered, answer-verdict}
-use Rattle.demands.proofs.Contracts.{DecodeAnswers, EncodeAnswers, ShapeAnswers, ReadAnswers, WriteAnswers, DefaultAnswers, BuildAnswers, CheckAnswers, AnswerAnswers}
+use Rattle.requests.specs.Answering.{answerRefusals, shapedRefusals}
+use Rattle.requests.proofs.Answers.{answer-numbered, answer-verdict, shaped-numbered, shaped-verdict}
+use Rattle.demands.proofs.Contracts.{DecodeAnswers, EncodeAnswers, ShapeAnswers, ReadAnswers, WriteAnswers, DefaultAnswers, BuildAnswers, CheckAnswers, AnswerAnswers, AnswerShapedAnswers}
 
 -- ---- one word
 
@@ -100,3 +100,6 @@ check-refusals p l r e = answers r (checkRefusals p l) (exactly (checkRefusals p
 
 pub answer-refusals : (l : Words) (w : ℕ) (r : Verdict) → AnswerAnswers l w r → Answers r (answerRefusals l w)
 answer-refusals l w r e = answers r (answerRefusals l w) (exactly (answerRefusals l w) (answer-numbered l w)) (e ∙ answer-verdict l w)
+
+pub answer-shaped-refusals : (l : Words) (w : ℕ) (r : Verdict) → AnswerShapedAnswers l w r → Answers r (shapedRefusals l w)
+answer-shaped-refusals l w r e = answers r (shapedRefusals l w) (exactly (shapedRefusals l w) (shaped-numbered l w)) (e ∙ shaped-verdict l w)

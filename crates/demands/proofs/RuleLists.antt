@@ -10,17 +10,16 @@ use borrow.Author.Tests.{leb-true, eqb-true}
 use Rattle.verdicts.specs.declared.Verdict.{Verdict}
 use Rattle.verdicts.specs.Refusals.{Refusal, refusal, firstOf, verdict, success, verdictOf}
 use Rattle.verdicts.proofs.First.{NoneApply, onward, all-missed}
-use Rattle.lists.specs.declared.Words.{Words}
-use Rattle.lists.specs.Shape.{shapeRefusals, shapeOf}
-use Rattle.lists.proofs.Shapes.{count-low, count-high, shape-verdict}
+use Rattle.lists.specs.Shape.{shapeRefusals}
+use Rattle.lists.proofs.Shapes.{count-low, count-high}
 use Rattle.rules.specs.Building.{builtWords}
 use Rattle.rules.specs.Checking.{checkRefusals, checkedOf}
 use Rattle.rules.proofs.Checks.{check-verdict}
 use Rattle.requests.specs.Answering.{answerOf}
 use Rattle.ports.specs.declared.Row.{Row}
 use Rattle.ports.specs.RuleLists.{ruleProfile, ruleList}
-use Rattle.ports.proofs.RuleLists.{Offerable, rule-profile-passes, rule-list-is}
-use Rattle.demands.proofs.BuiltPasses.{shape-clear, check-clear}
+use Rattle.ports.proofs.RuleLists.{Offerable, rule-profile-passes, rule-list-is, rule-list-clear}
+use Rattle.rules.proofs.BuiltPasses.{check-clear}
 
 -- ---- requests that are refused by their own numbers
 
@@ -64,20 +63,14 @@ module _ (y : Row) (o : Offerable y) where
       ∙ check-verdict (ruleProfile y) (builtWords (ruleProfile y))
       ∙ all-missed verdict success (checkRefusals (ruleProfile y) (builtWords (ruleProfile y))) (check-clear (ruleProfile y) (rule-profile-passes y o))
 
-  pub rule-list-clear : NoneApply (shapeRefusals (ruleList y))
-  rule-list-clear = subst (λ (l : Words). NoneApply (shapeRefusals l)) (sym (rule-list-is y o)) (shape-clear (ruleProfile y) (rule-profile-passes y o))
-
-  pub rule-list-shaped : shapeOf (ruleList y) ≡ success
-  rule-list-shaped = shape-verdict (ruleList y) ∙ all-missed verdict success (shapeRefusals (ruleList y)) rule-list-clear
-
   -- "SPR source lists of 1 to 7 words"
   pub rule-list-not-empty : 1 ≤ ruleList y .count
-  rule-list-not-empty = count-low (ruleList y .count) (rule-list-clear .0)
+  rule-list-not-empty = count-low (ruleList y .count) (rule-list-clear y o .0)
 
   pub rule-list-to-7 : ruleList y .count ≤ 7
-  rule-list-to-7 = count-high (ruleList y .count) (rule-list-clear .0)
+  rule-list-to-7 = count-high (ruleList y .count) (rule-list-clear y o .0)
 
   -- "34 or 35, the request's own, 36": a request on it is never refused for the list's shape, only by a number of its own
   pub refused-by-own : (w : ℕ) → (answerOf (ruleList y) w .number ≡ 0 → ⊥) → OwnRefusal (answerOf (ruleList y) w)
   unfolding answerOf
-  refused-by-own w f = own-after (shapeRefusals (ruleList y)) _ rule-list-clear refl f
+  refused-by-own w f = own-after (shapeRefusals (ruleList y)) _ (rule-list-clear y o) refl f

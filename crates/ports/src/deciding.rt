@@ -172,7 +172,7 @@ pub fn request(ports: Ports, capacity: HalfWatts, port: u8, word: u32) -> Change
     let row = rows[at];
     let listing = rule_list(row);
     let list = listing.list;
-    let own = requests::answer(list, word);
+    let own = requests::answer_shaped(list, word);
     if own.number != verdicts::SUCCESS {
         return no_change(ports, own);
     }

@@ -7,7 +7,7 @@ use Rattle.objects.specs.declared.Object.{Object}
 use Rattle.lists.specs.declared.Words.{Words}
 use Rattle.requests.specs.declared.Asked.{Asked}
 use Rattle.requests.specs.Taking.{positionOf, takenApart}
-use Rattle.requests.specs.Answering.{answerOf}
+use Rattle.requests.specs.Answering.{answerOf, shapedAnswer}
 
 abbrev pub NamesPlace : ℕ → ℕ → Type 0
 NamesPlace w r = r ≡ positionOf w
@@ -17,3 +17,6 @@ TakesApart o w r = r ≡ takenApart o w
 
 abbrev pub AnswersRequest : Words → ℕ → Verdict → Type 0
 AnswersRequest l w r = r ≡ answerOf l w
+
+abbrev pub AnswersShaped : Words → ℕ → Verdict → Type 0
+AnswersShaped l w r = r ≡ shapedAnswer l w

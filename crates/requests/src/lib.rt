@@ -4,6 +4,7 @@ mod judging;
 mod taking;
 
 pub use answering::answer;
+pub use answering::answer_shaped;
 use steps::Ma10;
 use steps::Ma50;
 use steps::Mv20;

@@ -8,3 +8,7 @@ pub mod Allowed
 pub mod Builds
 pub mod Checks
 pub mod Defaults
+pub mod Slots
+pub mod Built
+pub mod BuiltCurrents
+pub mod BuiltPasses

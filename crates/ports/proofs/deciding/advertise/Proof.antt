@@ -76,7 +76,7 @@ returns-2 c =
     let p = c .before .before .before in
     let x = p .before .before .before .before .args in
     c .offer-row .ensures
-    ∙ sym (all-missed (noOffer (x .ports)) (offering (x .port) (offered (x .capacity .0) (x .ports) (x .port) (portRow (x .ports) (x .port)
+    ∙ sym (all-missed (noOffer (x .ports)) (offering (x .port) (offered (c .before .before .before .before .before .before .before .args .capacity .0) (c .before .before .before .before .before .before .before .args .ports) (c .before .before .before .before .before .before .before .args .port) (portRow (x .ports) (x .port)
     .cable))) (useRefusals (x .capacity .0) (x .ports) (x .port)) (passed p))
 
 pub advertise-spec : {M : Type 1} → statement M

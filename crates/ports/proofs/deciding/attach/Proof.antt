@@ -52,7 +52,7 @@ returns-2 c =
     let x = c .before .before .before .before .before .args in
     c .offer-row .ensures
     ∙ sym (lets-pass (attachRefusals (x .capacity .0) (x .ports) (x .port) (x .cable)) _ (judged (c .before .before .before .before)) (noOffer
-    (x .ports)) (offering (x .port) (offered (x .capacity .0) (x .ports) (x .port) (x .cable))) (attach-numbered (x .capacity .0) (x .ports)
+    (x .ports)) (offering (x .port) (offered (c .before .before .before .before .before .args .capacity .0) (c .before .before .before .before .before .args .ports) (c .before .before .before .before .before .args .port) (x .cable))) (attach-numbered (x .capacity .0) (x .ports)
     (x .port) (x .cable)) (c .before .if1 .left))
 
 pub attach-spec : {M : Type 1} → statement M

@@ -8,14 +8,15 @@ use Rattle.verdicts.specs.Refusals.{success, verdictOf}
 use Rattle.verdicts.proofs.First.{NoneApply}
 use Rattle.lists.specs.declared.Listing.{Listing}
 use Rattle.lists.specs.declared.Words.{Words}
-use Rattle.requests.specs.Answering.{answerOf}
+use Rattle.requests.specs.Answering.{answerOf, shapedAnswer}
 use Rattle.ports.specs.declared.Row.{Row}
 use Rattle.ports.specs.Rows.{portRow, heldAt, allHeld, leftFor, holding}
 use Rattle.ports.specs.RuleLists.{ruleList}
 use Rattle.ports.specs.Requests.{heldFor, newHeld}
 use Rattle.ports.specs.Refusing.{useRefusals}
 use Rattle.ports.specs.Deciding.{noChange, changing}
-use Rattle.ports.proofs.Passing.{use-numbered, use-port, port-low, port-at, eight-rows, rows-pass, table-passes, capacity-high, sum-fits, own-of-all, left-is}
+use Rattle.ports.proofs.Passing.{use-numbered, use-port, port-low, port-at, eight-rows, rows-pass, table-passes, capacity-high, sum-fits, own-of-all, left-is, attached}
+use Rattle.ports.proofs.RuleLists.{attached-offerable, rule-list-answers}
 use Rattle.ports.proofs.Judged.{clear, fault-is, held-is}
 use Rattle.ports.proofs.Asking.{accepts, place-from-1, place-to-7, use-refused, own-refused, no-power, held-anew}
 use borrow.Author.Needs.{needs}
@@ -42,14 +43,18 @@ list-is : (c : tie.After-rule-list) → c .rule-list .result .list ≡ ruleList 
     (c .before .before .before .before .before .before .before .args .port))
 list-is c = ap (λ (l : Listing). l .list) (c .rule-list .ensures)
 
-own-is : (c : tie.After-answer) → c .answer .result ≡ answerOf (ruleList (portRow
+-- a list that was built passes its shape, so its answer is that of the request's own refusals
+own-is : (c : tie.After-answer-shaped) → c .answer-shaped .result ≡ answerOf (ruleList (portRow
     (c .before .before .before .before .before .before .before .before .before .args .ports)
     (c .before .before .before .before .before .before .before .before .before .args .port)))
     (c .before .before .before .before .before .before .before .before .before .args .word)
 own-is c =
-    c .answer .ensures
-    ∙ ap (λ (l : Words). answerOf l (c .before .before .before .before .before .before .before .before .before .args .word)) (list-is
-    (c .before .before))
+    let p = c .before .before .before .before .before in
+    let x = p .before .before .before .before .args in
+    let y = portRow (x .ports) (x .port) in
+    c .answer-shaped .ensures
+    ∙ ap (λ (l : Words). shapedAnswer l (x .word)) (list-is (c .before .before))
+    ∙ sym (rule-list-answers y (attached-offerable y (attached (x .capacity .0) (x .ports) (x .port) (passed p))) (x .word))
 
 new-held : (c : tie.After-held-for) → c .held-for .result ≡ newHeld (portRow
     (c .before .before .before .before .before .before .before .before .before .before .before .before .before .args .ports)
@@ -112,8 +117,8 @@ array-copy-out-row c =
 rule-list-requires : tie.Need-rule-list-requires
 rule-list-requires c κs = search needs
 
-answer-requires : tie.Need-answer-requires
-answer-requires c κs = search needs
+answer-shaped-requires : tie.Need-answer-shaped-requires
+answer-shaped-requires c κs = search needs
 
 no-change-requires-2 : tie.Need-no-change-requires-2
 no-change-requires-2 c κs = search needs
@@ -202,7 +207,7 @@ request-spec =
     mul-row
     array-copy-out-row
     rule-list-requires
-    answer-requires
+    answer-shaped-requires
     no-change-requires-2
     returns-2
     held-for-requires

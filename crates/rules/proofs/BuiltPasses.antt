@@ -28,21 +28,21 @@ use Rattle.lists.proofs.Finding.{found-at}
 use Rattle.lists.proofs.Shapes.{counted}
 use Rattle.lists.proofs.Sevens.{filled-at, past-filled}
 use Rattle.lists.proofs.RoundTrips.{Words32}
 use Rattle.rules.specs.declared.Profile.{Profile}
 use Rattle.rules.specs.declared.Slot.{Slot}
 use Rattle.rules.specs.declared.Slot.the-variants.{Nothing, Fixed, Avs, Prog}
 use Rattle.rules.specs.Profiles.{ppsBelowMaximum, profileRefusals, buildRefusals}
 use Rattle.rules.specs.Plans.{baseSlots, slots}
 use Rattle.rules.specs.Currents.{builtCurrent}
 use Rattle.rules.specs.Building.{objectFor, wordFor, builtCount, builtWords}
 use Rattle.rules.specs.Checking.{fits, allFit, rightCount, wrongSet, currentAllowed, currentRows, checkRefusals}
 use Rattle.rules.proofs.PlanFacts.{base-within}
 use Rattle.rules.proofs.ProfileCases.{max-high, max-low, present-high}
 use Rattle.rules.proofs.Builds.{built-count-high}
 use Rattle.rules.proofs.Checks.{none-looked, fit-more, right-set}
-use Rattle.demands.proofs.Slots.{slotGood, good-at, base-not-empty, first-is-5-V, has-15-V, has-20-V, follow-is, follows-at}
-use Rattle.demands.proofs.Built.{some-at-20-V, has-word, no-flags-later, in-bounds, in-power}
-use Rattle.demands.proofs.BuiltCurrents.{allowed-at}
+use Rattle.rules.proofs.Slots.{slotGood, good-at, base-not-empty, first-is-5-V, has-15-V, has-20-V, follow-is, follows-at}
+use Rattle.rules.proofs.Built.{some-at-20-V, has-word, no-flags-later, in-bounds, in-power}
+use Rattle.rules.proofs.BuiltCurrents.{allowed-at}
 
 -- an object that is built is what its slot asks for
 pub fits-own : (p : Profile) → NoneApply (profileRefusals p) → (first : Bool) (s : Slot) → slotGood s ≡ true → fits s (objectFor p first s) ≡ true

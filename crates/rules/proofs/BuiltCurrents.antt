@@ -9,16 +9,16 @@ use lib.Dec.{leb, ltb, eqb}
 use borrow.Author.Tests.{leb-true, ltb-true, ltb-false, le-leb, eq-eqb, ne-eqb, eqb-true, eqb-false}
 use Rattle.verdicts.proofs.First.{NoneApply}
 use Rattle.steps.proofs.RoundingLaws.{down-greatest, up-least, down-le-up}
 use Rattle.rules.specs.declared.Profile.{Profile}
 use Rattle.rules.specs.declared.Slot.{Slot}
 use Rattle.rules.specs.declared.Slot.the-variants.{Nothing, Fixed, Avs, Prog}
 use Rattle.rules.specs.Profiles.{profileRefusals}
 use Rattle.rules.specs.Currents.{limitAt, builtCurrent, fixedAllowed, progCurrent, roundedAs, downAt, upAt, cable10mA}
 use Rattle.rules.specs.Building.{objectFor}
 use Rattle.rules.specs.Checking.{currentAllowed}
 use Rattle.rules.proofs.Allowed.{at-20-V, above-3-A, up-to-3-A, built-figure}
-use Rattle.demands.proofs.Slots.{slotGood}
-use Rattle.demands.proofs.Built.{cable-low}
+use Rattle.rules.proofs.Slots.{slotGood}
+use Rattle.rules.proofs.Built.{cable-low}
 
 module _ (p : Profile) (x : NoneApply (profileRefusals p)) (volts : ℕ) (pos : 1 ≤ volts) where
   abbrev rounded : ℕ

@@ -16,14 +16,14 @@ use Rattle.objects.specs.Encode.{fieldsOf, wordOf, encodeOf}
 use Rattle.objects.proofs.Made.{flagless}
 use Rattle.lists.specs.ObjectRules.{outOfBounds, over100W}
 use Rattle.lists.specs.Writing.{wordIn}
 use Rattle.rules.specs.declared.Profile.{Profile}
 use Rattle.rules.specs.declared.Slot.{Slot}
 use Rattle.rules.specs.declared.Slot.the-variants.{Nothing, Fixed, Avs, Prog}
 use Rattle.rules.specs.Profiles.{profileRefusals}
 use Rattle.rules.specs.Currents.{limitAt, builtCurrent, progLimit, progCurrent, roundedAs, downAt, upAt, progDown}
 use Rattle.rules.specs.Building.{flagsAt, objectFor}
 use Rattle.rules.proofs.ProfileCases.{flags-high, present-low}
-use Rattle.demands.proofs.Slots.{slotGood}
+use Rattle.rules.proofs.Slots.{slotGood}
 
 either-true : (a b : Bool) → (a || b) ≡ true → (a ≡ true) ⊎ (b ≡ true)
 either-true true b e = inl refl
