@@ -1,6 +1,7 @@
--- A port that is offered power (01, "Attach and advertise set P to ..., and return the list"): its list can be built.
+-- A port that is offered power (01, "Attach and advertise set P to ..., and return the list"): its list can be built, and where no
+-- refusal applies that is what the call decides.
 -- Assumes nothing.
-use mathlib.Core.Path.{_≡_, refl, ap}
+use mathlib.Core.Path.{_≡_, refl, sym, ap, _∙_}
 use mathlib.Core.Bool.{Bool, true, false, _||_}
 use Prim.Native.Nat.{ℕ, _≤_}
 use native.Mathlib.Nat.{min-le-left, le-min}
@@ -9,16 +10,18 @@ use lib.Dec.{eqb}
 use borrow.Author.Tests.{not-false}
 use Rattle.verdicts.specs.declared.Verdict.{Verdict}
 use Rattle.verdicts.specs.Refusals.{success}
-use Rattle.verdicts.proofs.First.{NoneApply}
+use Rattle.verdicts.proofs.First.{NoneApply, all-missed}
 use Rattle.lists.specs.declared.Listing.{Listing}
 use Rattle.rules.specs.Profiles.{badCable}
 use Rattle.rules.specs.Building.{builtOf}
 use Rattle.ports.specs.declared.Row.{Row}
 use Rattle.ports.specs.declared.Ports.{Ports}
+use Rattle.ports.specs.declared.Offer.{Offer}
 use Rattle.ports.specs.Rows.{portRow, leftFor, presentFor, offered}
 use Rattle.ports.specs.Soundness.{soundRow}
 use Rattle.ports.specs.RuleLists.{ruleProfile, ruleList}
-use Rattle.ports.specs.Refusing.{portRefusals}
+use Rattle.ports.specs.Refusing.{portRefusals, attachRefusals, useRefusals}
+use Rattle.ports.specs.Deciding.{noOffer, offering, attachOffer, advertiseOffer}
 use Rattle.ports.proofs.Sound.{sound-empty, sound-attached, limits-of, either-cable}
 use Rattle.ports.proofs.RuleLists.{Offerable, rule-list-built}
 use Rattle.ports.proofs.Passing.{row-sound, own-fits}
@@ -64,3 +67,14 @@ module _ (capacity : ℕ) (t : Ports) (port : ℕ) (x : NoneApply (portRefusals 
     list-offered =
         ap (λ (v : Verdict). record { verdict = v; list = ruleList (offered capacity t port cable) })
         (ap (λ (l : Listing). l .verdict) (rule-list-built (offered capacity t port cable) offerable))
+
+module _ (capacity : ℕ) (t : Ports) (port : ℕ) (r : Offer) where
+  pub attaches : (cable : ℕ) → NoneApply (attachRefusals capacity t port cable) → r ≡ offering port (offered capacity t port cable)
+      → r ≡ attachOffer capacity t port cable
+  unfolding attachOffer
+  attaches cable n e = e ∙ sym (all-missed (noOffer t) _ (attachRefusals capacity t port cable) n)
+
+  pub advertises : NoneApply (useRefusals capacity t port) → r ≡ offering port (offered capacity t port (portRow t port .cable))
+      → r ≡ advertiseOffer capacity t port
+  unfolding advertiseOffer
+  advertises n e = e ∙ sym (all-missed (noOffer t) _ (useRefusals capacity t port) n)

@@ -3,12 +3,13 @@
 use mathlib.Core.Path.{_≡_, sym, _∙_}
 use native.Mathlib.Omega.{arith}
 use Rattle.verdicts.specs.Refusals.{verdictOf}
-use Rattle.verdicts.proofs.First.{NoneApply, all-missed}
+use Rattle.verdicts.proofs.First.{NoneApply}
 use Rattle.ports.specs.Rows.{portRow, offered}
 use Rattle.ports.specs.Refusing.{useRefusals}
 use Rattle.ports.specs.Deciding.{noOffer, offering, advertiseOffer}
 use Rattle.ports.proofs.Passing.{use-numbered, use-port, cable-kept, port-succeeds, port-low, port-at, eight-rows}
 use Rattle.ports.proofs.Judged.{clear, decides, fault-is, held-is}
+use Rattle.ports.proofs.Offering.{advertises}
 use borrow.Author.Needs.{needs}
 use Rattle.ports.proofs.deciding.advertise.Statement.{statement}
 use Rattle.ports.proofs.deciding.advertise.Tie as tie
@@ -71,13 +72,10 @@ offer-row-requires c κs =
     )
 
 returns-2 : tie.Need-returns-2
-unfolding advertiseOffer
 returns-2 c =
     let p = c .before .before .before in
     let x = p .before .before .before .before .args in
-    c .offer-row .ensures
-    ∙ sym (all-missed (noOffer (x .ports)) (offering (x .port) (offered (c .before .before .before .before .before .before .before .args .capacity .0) (c .before .before .before .before .before .before .before .args .ports) (c .before .before .before .before .before .before .before .args .port) (portRow (x .ports) (x .port)
-    .cable))) (useRefusals (x .capacity .0) (x .ports) (x .port)) (passed p))
+    advertises (x .capacity .0) (x .ports) (x .port) _ (passed p) (c .offer-row .ensures)
 
 pub advertise-spec : {M : Type 1} → statement M
 advertise-spec =
