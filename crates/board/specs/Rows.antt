@@ -10,9 +10,13 @@ use Rattle.ports.specs.declared.Row.{Row}
 use Rattle.ports.specs.declared.Ports.{Ports}
 use Rattle.ports.specs.Rows.{noRow, emptied}
 
--- eight rows and how many were lent, by value
-abbrev pub gathered : Row → Row → Row → Row → Row → Row → Row → Row → ℕ → Ports
-gathered a b c d e f g h n = record { rows = a ∷ b ∷ c ∷ d ∷ e ∷ f ∷ g ∷ h ∷ []; count = n }
+-- eight times no row, and how many were lent, by value
+abbrev pub noPorts : ℕ → Ports
+noPorts n = record { rows = noRow ∷ noRow ∷ noRow ∷ noRow ∷ noRow ∷ noRow ∷ noRow ∷ noRow ∷ []; count = n }
+
+-- the same with another row at a place
+abbrev pub withRow : Ports → ℕ → Row → Ports
+withRow t i y = record { rows = set (t .rows) i y; count = t .count }
 
 -- the rows of which the first n are emptied
 abbrev pub emptiedTo : ℕ → List Row → List Row

@@ -1,58 +1,61 @@
 // The lent rows: read by value, one of them written, the first of them emptied. All else works by value, so that only the
 // functions here and the calls themselves have a reference to the rows.
 ghost use mathlib.Core.Path.{_≡_};
-ghost use Prim.Native.Nat.{_≤_};
-ghost use lib.ListN.{length, getD, set};
-ghost use Rattle.ports.specs.Rows.{noRow};
+ghost use Prim.Native.Nat.{_≤_, _<_, min};
+ghost use lib.ListN.{length, set};
 ghost use Rattle.ports.specs.Lending.{lent};
-ghost use Rattle.board.specs.Rows.{gathered, emptiedTo};
+ghost use Rattle.board.specs.Rows.{noPorts, withRow, emptiedTo};
 use ports::Ports;
 use ports::Row;
 use ports::emptied;
 use steps::HalfWatts;
 
-fn no_row() -> Row
-    ensures { λ r. ⌜ r ≡ noRow ⌝ }
+fn no_ports(count: usize) -> Ports
+    ensures { λ r. ⌜ r ≡ noPorts count ⌝ }
 {
-    Row {
+    let none = Row {
         max: HalfWatts(0),
         pps: 0,
         cable: 0,
         present: HalfWatts(0),
         held: HalfWatts(0),
-    }
-}
-
-// The row at i, or no row past the end.
-pub(crate) fn row_or(rows: &[Row], i: usize) -> Row
-    ensures { λ r. ⌜ r ≡ getD (now (rows .entry)) i noRow ⌝ }
-{
-    let none = no_row();
-    if i < rows.len() { rows[i] } else { none }
-}
-
-fn gather(a: Row, b: Row, c: Row, d: Row, e: Row, f: Row, g: Row, h: Row, count: usize) -> Ports
-    ensures { λ r. ⌜ r ≡ gathered a b c d e f g h count ⌝ }
-{
+    };
     Ports {
-        rows: [a, b, c, d, e, f, g, h],
+        rows: [none; 8],
         count,
     }
 }
 
-// The first eight rows, and how many were lent: more are refused by that count, and no other row is looked at.
+fn up_to_eight(count: usize) -> usize
+    ensures { λ r. ⌜ r ≡ min count 8 ⌝ }
+{
+    if count < 8 { count } else { 8 }
+}
+
+fn with_row(ports: Ports, at: usize, row: Row) -> Ports
+    requires { ⌜ at < 8 ⌝ }
+    ensures { λ r. ⌜ r ≡ withRow ports at row ⌝ }
+{
+    let mut with = ports;
+    with.rows[at] = row;
+    with
+}
+
+// The first eight rows, and how many were lent: more are refused by that count, and no other row is looked at. A loop, and not eight
+// rows by name: the compiler would take those apart into their fields and run out of registers.
 pub(crate) fn read_rows(rows: &[Row]) -> Ports
     ensures { λ r. ⌜ r ≡ lent (now (rows .entry)) ⌝ }
 {
-    let a = row_or(rows, 0);
-    let b = row_or(rows, 1);
-    let c = row_or(rows, 2);
-    let d = row_or(rows, 3);
-    let e = row_or(rows, 4);
-    let f = row_or(rows, 5);
-    let g = row_or(rows, 6);
-    let h = row_or(rows, 7);
-    gather(a, b, c, d, e, f, g, h, rows.len())
+    let count = rows.len();
+    let n = up_to_eight(count);
+    let mut ports = no_ports(count);
+    let mut i = 0;
+    while i < n {
+        let row = rows[i];
+        ports = with_row(ports, i, row);
+        i += 1;
+    }
+    ports
 }
 
 // A place past the end is no row: nothing is written there. A refusal has such a place.
