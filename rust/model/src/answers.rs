@@ -1,0 +1,52 @@
+//! The refusal numbers of 01 by name, and how a refusal becomes an answer.
+
+use crate::{Listing, Verdict, Words};
+
+pub const MAX_POWER: u8 = 1;
+pub const PRESENT_POWER: u8 = 2;
+pub const CABLE: u8 = 3;
+pub const CHOICE: u8 = 4;
+pub const FLAGS: u8 = 5;
+pub const NO_PPS_NOW: u8 = 6;
+pub const TOO_WIDE: u8 = 7;
+pub const COUNT: u8 = 10;
+pub const FIRST_OBJECT: u8 = 11;
+pub const KIND: u8 = 12;
+pub const RESERVED: u8 = 13;
+pub const ORDER: u8 = 14;
+pub const VOLTAGE: u8 = 15;
+pub const POWER: u8 = 16;
+pub const AVS_DIFFERS: u8 = 17;
+pub const WRONG_SET: u8 = 18;
+pub const CURRENT: u8 = 19;
+pub const POSITION: u8 = 20;
+pub const REQUEST_RESERVED: u8 = 21;
+pub const OUT_OF_RANGE: u8 = 22;
+pub const NOT_WHOLE: u8 = 23;
+pub const OPERATING: u8 = 24;
+pub const MAXIMUM: u8 = 25;
+pub const ROW_COUNT: u8 = 30;
+pub const ROW_MAX: u8 = 31;
+pub const CAPACITY: u8 = 32;
+pub const PORT: u8 = 33;
+pub const IN_USE: u8 = 34;
+pub const NOT_ATTACHED: u8 = 35;
+pub const NO_POWER: u8 = 36;
+pub const NOT_SOUND: u8 = 37;
+
+pub fn refuse<T>(number: u8, place: u8) -> Result<T, Verdict> {
+    Err(Verdict { number, place })
+}
+
+/// "Success is 0, place 0."
+pub fn verdict(result: Result<(), Verdict>) -> Verdict {
+    result.err().unwrap_or_default()
+}
+
+/// "A refusal returns its number, the place, and zero for all else, an empty list included."
+pub fn listing(result: Result<Words, Verdict>) -> Listing {
+    match result {
+        Ok(list) => Listing { verdict: Verdict::default(), list },
+        Err(verdict) => Listing { verdict, list: Words::default() },
+    }
+}

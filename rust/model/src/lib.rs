@@ -1,0 +1,143 @@
+//! The statement of what to build (01) once more, in plain Rust, by hand.
+//! Every call answers for every input; none panics, allocates or keeps state.
+
+#![no_std]
+#![forbid(unsafe_code)]
+
+mod answers;
+mod flat;
+mod lists;
+mod ports;
+mod requests;
+mod rules;
+mod steps;
+#[cfg(test)]
+mod tests;
+mod words;
+
+pub use flat::{flat_read, flat_write, flatten, raise};
+pub use lists::{read, shape, write};
+pub use ports::{advertise, attach, detach, remaining, request, set_up};
+pub use requests::{answer, position, take_apart};
+pub use rules::{build, check, default_profile};
+pub use steps::{convert, round_down, round_up};
+pub use words::{decode, encode, reserved_bit_set};
+
+#[derive(Clone, Copy, Debug, PartialEq, Eq, Default)]
+pub struct Verdict {
+    pub number: u8,
+    pub place: u8,
+}
+
+#[derive(Clone, Copy, Debug, PartialEq, Eq, Default)]
+pub struct Words {
+    pub words: [u32; 7],
+    pub count: u8,
+}
+
+#[derive(Clone, Copy, Debug, PartialEq, Eq, Default)]
+pub struct Listing {
+    pub verdict: Verdict,
+    pub list: Words,
+}
+
+/// Powers in half watts, cable in amperes, rounding 0 down and 1 up.
+#[derive(Clone, Copy, Debug, PartialEq, Eq, Default)]
+pub struct Profile {
+    pub max: u16,
+    pub present: u16,
+    pub cable: u8,
+    pub rounding: u8,
+    pub pps: u8,
+    pub flags: u8,
+}
+
+#[derive(Clone, Copy, Debug, PartialEq, Eq, Default)]
+pub struct Profiled {
+    pub verdict: Verdict,
+    pub profile: Profile,
+}
+
+#[derive(Clone, Copy, Debug, PartialEq, Eq, Default)]
+pub struct Row {
+    pub max: u16,
+    pub pps: u8,
+    pub cable: u8,
+    pub present: u16,
+    pub held: u16,
+}
+
+#[derive(Clone, Copy, Debug, PartialEq, Eq, Default)]
+pub struct RemainingPower {
+    pub verdict: Verdict,
+    pub power: u16,
+}
+
+/// Figures in the object's own steps, as in its word.
+#[derive(Clone, Copy, Debug, PartialEq, Eq)]
+pub enum Object {
+    Fixed { flags: u8, peak: u8, volts: u16, current: u16 },
+    Battery { max: u16, min: u16, power: u16 },
+    Variable { max: u16, min: u16, current: u16 },
+    Pps { limited: u8, max: u16, min: u16, current: u16 },
+    Avs { peak: u8, low: u16, high: u16 },
+}
+
+#[derive(Clone, Copy, Debug, PartialEq, Eq)]
+pub struct Objects {
+    pub places: [Object; 7],
+    pub count: u8,
+}
+
+#[derive(Clone, Copy, Debug, PartialEq, Eq)]
+pub struct Reading {
+    pub verdict: Verdict,
+    pub list: Objects,
+}
+
+/// One struct for all kinds, as C has it. kind: 0 fixed, 1 battery, 2 variable, 3 PPS, 4 AVS.
+#[derive(Clone, Copy, Debug, PartialEq, Eq, Default)]
+pub struct FlatObject {
+    pub kind: u8,
+    pub flags: u8,
+    pub peak: u8,
+    pub limited: u8,
+    pub volts: u16,
+    pub max: u16,
+    pub min: u16,
+    pub power: u16,
+    pub current: u16,
+    pub max100: u16,
+    pub min100: u16,
+    pub current50: u16,
+    pub low: u16,
+    pub high: u16,
+}
+
+#[derive(Clone, Copy, Debug, PartialEq, Eq, Default)]
+pub struct FlatObjects {
+    pub places: [FlatObject; 7],
+    pub count: u8,
+}
+
+#[derive(Clone, Copy, Debug, PartialEq, Eq, Default)]
+pub struct FlatReading {
+    pub verdict: Verdict,
+    pub list: FlatObjects,
+}
+
+#[derive(Clone, Copy, Debug, PartialEq, Eq)]
+pub enum Request {
+    Fixed { operating: u16, maximum: u16 },
+    Battery { operating: u16, maximum: u16 },
+    Variable { operating: u16, maximum: u16 },
+    Pps { volts: u16, current: u16 },
+    Avs { volts: u16, current: u16 },
+}
+
+#[derive(Clone, Copy, Debug, PartialEq, Eq)]
+pub struct Asked {
+    pub position: u8,
+    pub mismatch: bool,
+    pub request: Request,
+}

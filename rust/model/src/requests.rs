@@ -1,0 +1,154 @@
+//! Answering a request.
+
+use crate::answers::*;
+use crate::lists::{object_at, shape};
+use crate::steps::round_up;
+use crate::{Asked, Object, Request, Verdict, Words};
+
+/// Bits 27, 21, 20, and bits 27, 21, 8, 7.
+const FIGURES_RESERVED: u32 = 1 << 27 | 1 << 21 | 1 << 20;
+const VOLTS_RESERVED: u32 = 1 << 27 | 1 << 21 | 1 << 8 | 1 << 7;
+
+/// AVS voltages in 25 mV.
+const AVS_9V: u16 = 360;
+const AVS_15V: u16 = 600;
+const AVS_20V: u16 = 800;
+
+pub fn position(word: u32) -> u8 {
+    (word >> 28) as u8
+}
+
+fn mismatch(word: u32) -> bool {
+    word >> 26 & 1 == 1
+}
+
+fn operating(word: u32) -> u16 {
+    (word >> 10 & 0x3FF) as u16
+}
+
+fn maximum(word: u32) -> u16 {
+    (word & 0x3FF) as u16
+}
+
+/// In 20 mV for PPS, in 25 mV for AVS.
+fn volts(word: u32) -> u16 {
+    (word >> 9 & 0xFFF) as u16
+}
+
+/// In 50 mA.
+fn current(word: u32) -> u16 {
+    (word & 0x7F) as u16
+}
+
+pub fn take_apart(object: &Object, word: u32) -> Asked {
+    let (operating, maximum) = (operating(word), maximum(word));
+    let (volts, current) = (volts(word), current(word));
+    Asked {
+        position: position(word),
+        mismatch: mismatch(word),
+        request: match object {
+            Object::Fixed { .. } => Request::Fixed { operating, maximum },
+            Object::Battery { .. } => Request::Battery { operating, maximum },
+            Object::Variable { .. } => Request::Variable { operating, maximum },
+            Object::Pps { .. } => Request::Pps { volts, current },
+            Object::Avs { .. } => Request::Avs { volts, current },
+        },
+    }
+}
+
+/// "Requests check the shape of the list first, then 20, 21, 23, 22, 24, 25."
+pub fn answer(list: &Words, word: u32) -> Verdict {
+    let verdict = shape(list);
+    if verdict.number != 0 {
+        return verdict;
+    }
+    ask(list, word).err().unwrap_or_default()
+}
+
+/// The object asked for, of a list whose shape is good.
+pub fn ask(list: &Words, word: u32) -> Result<Object, Verdict> {
+    let Some(object) = object_at(list, position(word)) else {
+        return refuse(POSITION, 0);
+    };
+    match object {
+        Object::Fixed { current, .. } | Object::Variable { current, .. } => {
+            check_figures(current, word)?
+        }
+        Object::Battery { power, .. } => check_figures(power, word)?,
+        Object::Pps { max, min, current, .. } => check_pps(max, min, current, word)?,
+        Object::Avs { low, high, .. } => check_avs(low, high, word)?,
+    }
+    Ok(object)
+}
+
+fn check_figures(advertised: u16, word: u32) -> Result<(), Verdict> {
+    if word & FIGURES_RESERVED != 0 {
+        return refuse(REQUEST_RESERVED, 0);
+    }
+    if operating(word) > advertised {
+        return refuse(OPERATING, 0);
+    }
+    if maximum(word) > advertised && !mismatch(word) {
+        return refuse(MAXIMUM, 0);
+    }
+    Ok(())
+}
+
+fn check_pps(max: u16, min: u16, advertised: u16, word: u32) -> Result<(), Verdict> {
+    if word & VOLTS_RESERVED != 0 {
+        return refuse(REQUEST_RESERVED, 0);
+    }
+    // The range is in 100 mV, five times the step of the request.
+    if !(5 * min..=5 * max).contains(&volts(word)) {
+        return refuse(OUT_OF_RANGE, 0);
+    }
+    if current(word) > advertised {
+        return refuse(OPERATING, 0);
+    }
+    Ok(())
+}
+
+fn check_avs(low: u16, high: u16, word: u32) -> Result<(), Verdict> {
+    if word & VOLTS_RESERVED != 0 {
+        return refuse(REQUEST_RESERVED, 0);
+    }
+    let volts = volts(word);
+    if volts & 0b11 != 0 {
+        return refuse(NOT_WHOLE, 0);
+    }
+    // "A zero in 9..0 means the range ends at 15 V."
+    let end = if high == 0 { AVS_15V } else { AVS_20V };
+    if !(AVS_9V..=end).contains(&volts) {
+        return refuse(OUT_OF_RANGE, 0);
+    }
+    // "Below 15.0 V the first current limits, above it the second; at 15.0 V the larger."
+    let limit = if volts < AVS_15V {
+        low
+    } else if volts > AVS_15V {
+        high
+    } else {
+        low.max(high)
+    };
+    // The limit is in 10 mA, a fifth of the step of the request.
+    if 5 * current(word) > limit {
+        return refuse(OPERATING, 0);
+    }
+    Ok(())
+}
+
+/// The power of an accepted request in half watts, rounded up; a rule list has no other kinds.
+pub fn power(object: &Object, word: u32, present: u16) -> u16 {
+    let requested = u32::from(volts(word)) * u32::from(current(word));
+    let power = match *object {
+        // 50 mV times 10 mA, a thousandth of a half watt.
+        Object::Fixed { volts, .. } => {
+            round_up(u32::from(volts) * u32::from(operating(word)), 1000)
+        }
+        // 20 mV times 50 mA.
+        Object::Pps { .. } => round_up(requested, 500).min(u32::from(present)),
+        // 25 mV times 50 mA.
+        Object::Avs { .. } => round_up(requested, 400),
+        Object::Battery { .. } | Object::Variable { .. } => 0,
+    };
+    power as u16
+}

@@ -1,0 +1,145 @@
+//! The library's values as the model's, which counts in plain numbers, and back.
+
+use arinduleu::steps::{HalfWatts, Ma10, Ma50, Mv100, Mv20, Mv25, Mv50, Mw250};
+use arinduleu::{flat, lists, objects, ports, requests, rules, verdicts};
+
+pub trait ToModel {
+    type Model;
+    fn model(self) -> Self::Model;
+}
+
+pub trait ToLibrary {
+    type Library;
+    fn library(self) -> Self::Library;
+}
+
+// A struct that has the same field names on both sides: first the fields of plain numbers, then those in steps, then the structs.
+macro_rules! structs {
+    ($($home:ident::$name:ident { $($plain:ident),* } { $($figure:ident: $step:ident),* } { $($inner:ident),* })*) => { $(
+        impl ToModel for $home::$name {
+            type Model = model::$name;
+            fn model(self) -> model::$name {
+                model::$name {
+                    $($plain: self.$plain,)*
+                    $($figure: self.$figure.0,)*
+                    $($inner: self.$inner.model(),)*
+                }
+            }
+        }
+
+        impl ToLibrary for model::$name {
+            type Library = $home::$name;
+            fn library(self) -> $home::$name {
+                $home::$name {
+                    $($plain: self.$plain,)*
+                    $($figure: $step(self.$figure),)*
+                    $($inner: self.$inner.library(),)*
+                }
+            }
+        }
+    )* };
+}
+
+// An enum that has the same variants on both sides: the fields of plain numbers, then those in steps.
+macro_rules! enums {
+    ($($home:ident::$name:ident { $($variant:ident { $($plain:ident),* } { $($figure:ident: $step:ident),* })* })*) => { $(
+        impl ToModel for $home::$name {
+            type Model = model::$name;
+            fn model(self) -> model::$name {
+                match self {
+                    $($home::$name::$variant { $($plain,)* $($figure),* } => {
+                        model::$name::$variant { $($plain,)* $($figure: $figure.0),* }
+                    })*
+                }
+            }
+        }
+
+        impl ToLibrary for model::$name {
+            type Library = $home::$name;
+            fn library(self) -> $home::$name {
+                match self {
+                    $(model::$name::$variant { $($plain,)* $($figure),* } => {
+                        $home::$name::$variant { $($plain,)* $($figure: $step($figure)),* }
+                    })*
+                }
+            }
+        }
+    )* };
+}
+
+structs! {
+    verdicts::Verdict { number, place } {} {}
+    lists::Words { words, count } {} {}
+    lists::Listing {} {} { verdict, list }
+    lists::Reading {} {} { verdict, list }
+    rules::Profile { cable, rounding, pps, flags } { max: HalfWatts, present: HalfWatts } {}
+    rules::Profiled {} {} { verdict, profile }
+    ports::Row { pps, cable } { max: HalfWatts, present: HalfWatts, held: HalfWatts } {}
+    ports::RemainingPower {} { power: HalfWatts } { verdict }
+    requests::Asked { position, mismatch } {} { request }
+    flat::FlatObject { kind, flags, peak, limited } {
+        volts: Mv50, max: Mv50, min: Mv50, power: Mw250, current: Ma10,
+        max100: Mv100, min100: Mv100, current50: Ma50, low: Ma10, high: Ma10
+    } {}
+    flat::FlatReading {} {} { verdict, list }
+}
+
+enums! {
+    objects::Object {
+        Fixed { flags, peak } { volts: Mv50, current: Ma10 }
+        Battery {} { max: Mv50, min: Mv50, power: Mw250 }
+        Variable {} { max: Mv50, min: Mv50, current: Ma10 }
+        Pps { limited } { max: Mv100, min: Mv100, current: Ma50 }
+        Avs { peak } { low: Ma10, high: Ma10 }
+    }
+    requests::Request {
+        Fixed {} { operating: Ma10, maximum: Ma10 }
+        Battery {} { operating: Mw250, maximum: Mw250 }
+        Variable {} { operating: Ma10, maximum: Ma10 }
+        Pps {} { volts: Mv20, current: Ma50 }
+        Avs {} { volts: Mv25, current: Ma50 }
+    }
+}
+
+impl ToModel for lists::Objects {
+    type Model = model::Objects;
+    fn model(self) -> model::Objects {
+        model::Objects {
+            places: self.places.map(|p| p.object.model()),
+            count: self.count,
+        }
+    }
+}
+
+impl ToLibrary for model::Objects {
+    type Library = lists::Objects;
+    fn library(self) -> lists::Objects {
+        let place = |o: model::Object| lists::Place {
+            object: o.library(),
+        };
+        lists::Objects {
+            places: self.places.map(place),
+            count: self.count,
+        }
+    }
+}
+
+impl ToModel for flat::FlatObjects {
+    type Model = model::FlatObjects;
+    fn model(self) -> model::FlatObjects {
+        model::FlatObjects {
+            places: self.places.map(ToModel::model),
+            count: self.count,
+        }
+    }
+}
+
+impl ToLibrary for model::FlatObjects {
+    type Library = flat::FlatObjects;
+    fn library(self) -> flat::FlatObjects {
+        flat::FlatObjects {
+            places: self.places.map(ToLibrary::library),
+            count: self.count,
+        }
+    }
+}

@@ -1,0 +1,124 @@
+//! Lists: their shape, reading and writing, with objects and with flat objects, and the same under the names of `board`.
+
+use crate::common::convert::{ToLibrary, ToModel};
+use crate::common::random::Random;
+use crate::common::run::Run;
+use crate::{lists_made, objects_made, words};
+use arinduleu::{board, flat, lists};
+use model::{FlatObjects, Object, Objects};
+
+pub const NUMBERS: &[u8] = &[0, 7, 10, 11, 12, 13, 14, 15, 16, 17];
+
+#[test]
+fn lists_read() {
+    let mut run = Run::new("lists read");
+    while run.going() {
+        let list = lists_made::any(&mut run.random);
+        let shape = model::shape(&list);
+        let words = list.library();
+        run.same("shape", &list, lists::shape(words).model(), shape);
+        run.same("arin_shape", &list, board::arin_shape(words).model(), shape);
+        run.same(
+            "read",
+            &list,
+            lists::read(words).model(),
+            model::read(&list),
+        );
+        let flat = model::flat_read(&list);
+        run.same("flat_read", &list, flat::flat_read(words).model(), flat);
+        run.same("arin_read", &list, board::arin_read(words).model(), flat);
+        run.saw(shape.number);
+    }
+    // 7 is for writing only.
+    let numbers: Vec<u8> = NUMBERS.iter().copied().filter(|n| *n != 7).collect();
+    run.finish(&numbers, &[]);
+}
+
+/// The objects of a list of words; a word of no kind becomes some object. Past the count lies what must not be read.
+fn objects(random: &mut Random) -> Objects {
+    let words = lists_made::any(random);
+    let places = words.words.map(|w| match model::decode(w) {
+        Some(object) => object,
+        None => objects_made::plausible(random),
+    });
+    let mut list = Objects {
+        places,
+        count: words.count,
+    };
+    if random.one_in(4) {
+        let at = random.below(7);
+        list.places[at] = objects_made::widened(random, list.places[at]);
+    }
+    list
+}
+
+#[test]
+fn lists_written() {
+    let mut run = Run::new("lists written");
+    while run.going() {
+        let list = objects(&mut run.random);
+        let written = model::write(&list);
+        run.same(
+            "write",
+            &list,
+            lists::write(list.library()).model(),
+            written,
+        );
+        run.saw(written.verdict.number);
+
+        let flat = flat_objects(&mut run.random, &list);
+        let written = model::flat_write(&flat);
+        run.same(
+            "flat_write",
+            &flat,
+            flat::flat_write(flat.library()).model(),
+            written,
+        );
+        run.same(
+            "arin_write",
+            &flat,
+            board::arin_write(flat.library()).model(),
+            written,
+        );
+        run.saw(written.verdict.number);
+        if written.verdict.number == 12 && written.verdict.place > 1 {
+            run.reached("no kind, behind the first");
+        }
+    }
+    run.finish(NUMBERS, &["no kind, behind the first"]);
+}
+
+/// The same objects, with stale figures in the fields that their kinds do not have, and now and then a kind that is none.
+fn flat_objects(random: &mut Random, list: &Objects) -> FlatObjects {
+    let place = |object: &Object| {
+        let mut flat = words::flat_object(random);
+        let own = model::flatten(object);
+        flat.kind = own.kind;
+        match object {
+            Object::Fixed { .. } => {
+                (flat.flags, flat.peak) = (own.flags, own.peak);
+                (flat.volts, flat.current) = (own.volts, own.current);
+            }
+            Object::Battery { .. } => {
+                (flat.max, flat.min, flat.power) = (own.max, own.min, own.power)
+            }
+            Object::Variable { .. } => {
+                (flat.max, flat.min, flat.current) = (own.max, own.min, own.current)
+            }
+            Object::Pps { .. } => {
+                (flat.limited, flat.current50) = (own.limited, own.current50);
+                (flat.max100, flat.min100) = (own.max100, own.min100);
+            }
+            Object::Avs { .. } => (flat.peak, flat.low, flat.high) = (own.peak, own.low, own.high),
+        }
+        flat
+    };
+    let mut flat = FlatObjects {
+        places: list.places.each_ref().map(place),
+        count: list.count,
+    };
+    if random.one_in(8) {
+        flat.places[random.below(7)].kind = random.pick(&[5, 6, 7, 128, 255]);
+    }
+    flat
+}

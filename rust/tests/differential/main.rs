@@ -1,0 +1,34 @@
+//! Every public call of the library against the model, on random inputs that reach deep. `../common/mod.rs` tells how to run it.
+
+#[path = "../common/mod.rs"]
+mod common;
+
+mod lists;
+mod lists_made;
+mod names;
+mod objects_made;
+mod ports;
+mod profiles;
+mod requests;
+mod requests_made;
+mod rows_made;
+mod rules;
+mod steps;
+mod table;
+mod words;
+
+/// Each part holds its own numbers to have come up; together they are all those of 01 that a call can give. 9 is a program's.
+#[test]
+fn every_number_of_01_belongs_to_a_part() {
+    let mut all: Vec<u8> = [
+        lists::NUMBERS,
+        rules::NUMBERS,
+        requests::NUMBERS,
+        ports::NUMBERS,
+    ]
+    .concat();
+    all.sort();
+    all.dedup();
+    let of_01: Vec<u8> = (0..=7).chain(10..=25).chain(30..=37).collect();
+    assert_eq!(all, of_01);
+}

@@ -1,0 +1,102 @@
+//! Requests: taken apart, and answered on a list.
+
+use crate::common::convert::{ToLibrary, ToModel};
+use crate::common::run::Run;
+use crate::{lists_made, objects_made, requests_made};
+use arinduleu::{board, requests};
+use model::{Object, Request, Verdict, Words};
+
+pub const NUMBERS: &[u8] = &[0, 10, 11, 12, 13, 14, 15, 16, 17, 20, 21, 22, 23, 24, 25];
+
+pub const CASES: [&str; 6] = [
+    "fixed",
+    "battery",
+    "variable",
+    "pps",
+    "avs",
+    "avs at 15.0 V by the second current alone",
+];
+
+#[test]
+fn requests_taken_apart() {
+    let mut run = Run::new("requests taken apart");
+    while run.going() {
+        let word = run.random.u32();
+        run.same(
+            "position",
+            &word,
+            requests::position(word),
+            model::position(word),
+        );
+        let object = objects_made::plausible(&mut run.random);
+        let library = requests::take_apart(object.library(), word).model();
+        run.same(
+            "take_apart",
+            &(object, word),
+            library,
+            model::take_apart(&object, word),
+        );
+    }
+    run.finish(&[], &[]);
+}
+
+#[test]
+fn requests_answered() {
+    let mut run = Run::new("requests answered");
+    while run.going() {
+        let list = match run.random.below(4) {
+            0 => lists_made::any(&mut run.random),
+            1 => lists_made::built(&mut run.random),
+            _ => lists_made::composed(&mut run.random),
+        };
+        for _ in 0..8 {
+            let word = requests_made::any(&mut run.random, &list);
+            let verdict = model::answer(&list, word);
+            let words = list.library();
+            // On a list whose shape passes, leaving the shape out changes nothing.
+            if model::shape(&list).number == 0 {
+                let shaped = requests::answer_shaped(words, word).model();
+                run.same("answer_shaped", &(list, word), shaped, verdict);
+            }
+            run.same(
+                "answer",
+                &(list, word),
+                requests::answer(words, word).model(),
+                verdict,
+            );
+            run.same(
+                "arin_answer",
+                &(list, word),
+                board::arin_answer(words, word).model(),
+                verdict,
+            );
+            run.saw(verdict.number);
+            if verdict == Verdict::default() {
+                run.reached(accepted(&list, word));
+            }
+        }
+    }
+    run.finish(NUMBERS, &CASES);
+}
+
+/// What was accepted, so that no kind goes without.
+pub fn accepted(list: &Words, word: u32) -> &'static str {
+    let at = usize::from(model::position(word)) - 1;
+    let object = model::decode(list.words[at]).expect("an accepted request names an object");
+    let asked = model::take_apart(&object, word).request;
+    match (object, asked) {
+        // 600 steps of 25 mV; a step of 50 mA is five of 10 mA.
+        (
+            Object::Avs { low, .. },
+            Request::Avs {
+                volts: 600,
+                current,
+            },
+        ) if low < current * 5 => CASES[5],
+        (Object::Fixed { .. }, _) => CASES[0],
+        (Object::Battery { .. }, _) => CASES[1],
+        (Object::Variable { .. }, _) => CASES[2],
+        (Object::Pps { .. }, _) => CASES[3],
+        (Object::Avs { .. }, _) => CASES[4],
+    }
+}

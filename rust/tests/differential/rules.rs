@@ -1,0 +1,131 @@
+//! Profiles, what is built for them, and the check of a list against one.
+
+use crate::common::convert::{ToLibrary, ToModel};
+use crate::common::random::Random;
+use crate::common::run::Run;
+use crate::{lists_made, profiles};
+use arinduleu::steps::HalfWatts;
+use arinduleu::{board, rules};
+use model::{Profile, Words};
+
+pub const NUMBERS: &[u8] = &[0, 1, 2, 3, 4, 5, 6, 10, 11, 12, 13, 14, 15, 16, 17, 18, 19];
+
+#[test]
+fn default_profile_of_every_maximum() {
+    let mut run = Run::new("default profiles");
+    for max in 0..=u16::MAX {
+        let model = model::default_profile(max);
+        let library = rules::default_profile(HalfWatts(max)).model();
+        run.same("default_profile", &max, library, model);
+        run.same(
+            "arin_default_profile",
+            &max,
+            board::arin_default_profile(max).model(),
+            model,
+        );
+        run.saw(model.verdict.number);
+    }
+    run.finish(&[0, 1], &[]);
+}
+
+#[test]
+fn built_and_checked() {
+    let mut run = Run::new("rules");
+    while run.going() {
+        let profile = profiles::any(&mut run.random);
+        let built = model::build(&profile);
+        run.same(
+            "build",
+            &profile,
+            rules::build(profile.library()).model(),
+            built,
+        );
+        run.same(
+            "arin_build",
+            &profile,
+            board::arin_build(profile.library()).model(),
+            built,
+        );
+        run.saw(built.verdict.number);
+
+        let (profile, list) = to_check(&mut run.random, profile);
+        let verdict = model::check(&profile, &list);
+        let (p, words) = (profile.library(), list.library());
+        run.same(
+            "check",
+            &(profile, list),
+            rules::check(p, words).model(),
+            verdict,
+        );
+        run.same(
+            "arin_check",
+            &(profile, list),
+            board::arin_check(p, words).model(),
+            verdict,
+        );
+        run.saw(verdict.number);
+    }
+    run.finish(NUMBERS, &[]);
+}
+
+/// A list, and a profile that it may keep to: its own, one close to it, or any.
+fn to_check(random: &mut Random, any: Profile) -> (Profile, Words) {
+    if random.one_in(4) {
+        return (any, lists_made::any(random));
+    }
+    let own = profiles::sound(random);
+    let wanted = Profile {
+        pps: if own.present == own.max { own.pps } else { 0 },
+        ..own
+    };
+    let mut list = model::build(&wanted).list;
+    match random.below(4) {
+        0 => {}
+        1 => lists_made::damage(random, &mut list),
+        _ => other_currents(random, own, &mut list),
+    }
+    lists_made::litter(random, &mut list);
+    match random.below(3) {
+        0 => (profiles::beside(random, own), list),
+        _ => (own, list),
+    }
+}
+
+/// Currents at and beside what a list may have: the quotient either way, 3 A, the cable. AVS takes those of its fixed objects along, or
+/// 17 would hide 19.
+fn other_currents(random: &mut Random, own: Profile, list: &mut Words) {
+    for at in 0..usize::from(list.count) {
+        if random.bool() {
+            continue;
+        }
+        match model::decode(list.words[at]) {
+            Some(model::Object::Fixed { volts, .. }) => {
+                let quotient = 50 * u32::from(own.present) / u32::from(volts / 20);
+                let up = random.below(2) as u32;
+                let limit = random.pick(&[quotient + up, 300, 100 * u32::from(own.cable)]);
+                let current = u32::from(random.near(limit.min(1023) as u16, 10));
+                set_fixed(list, at, current);
+            }
+            Some(model::Object::Pps { current, .. }) => {
+                let limit = random.pick(&[current, 60, 20 * u16::from(own.cable)]);
+                list.words[at] = list.words[at] & !0x7F | u32::from(random.near(limit, 7));
+            }
+            _ => {}
+        }
+    }
+}
+
+fn set_fixed(list: &mut Words, at: usize, current: u32) {
+    let old = list.words[at];
+    list.words[at] = old & !0x3FF | current;
+    // Only AVS words begin with 1110b; 15 V is 300 steps and 20 V is 400.
+    for word in &mut list.words {
+        if *word >> 28 == 0xE {
+            match (old >> 10) & 0x3FF {
+                300 => *word = *word & !(0x3FF << 10) | current << 10,
+                400 => *word = *word & !0x3FF | current,
+                _ => {}
+            }
+        }
+    }
+}
