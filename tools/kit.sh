@@ -1,4 +1,5 @@
-# What ./arin and ./test share: the kit, and how an x86-64 program runs on this machine. The caller sets `who`, its own name.
+# What ./arin, ./test and tools/c_tests.sh share: the kit, and how an x86-64 program runs on this machine. The caller sets `who`, its
+# own name.
 
 need_kit() {
   if ! command -v rt > /dev/null 2>&1; then
@@ -7,13 +8,17 @@ need_kit() {
   fi
 }
 
+# The folder of the kit's tools for this machine, with bin/ and lib/.
+kit_tools() {
+  echo "$(dirname "$(dirname "$(readlink -f "$(command -v rt)")")")/on/$(uname -m)/toolchain"
+}
+
 # The words that stand before a program to run it, as rt itself runs programs: the kit's loader with its C library, and before these the
 # kit's emulator where the machine is not x86-64.
 runner() {
-  local machine home tools emulator
+  local machine tools emulator
   machine=$(uname -m)
-  home=$(dirname "$(dirname "$(readlink -f "$(command -v rt)")")")
-  tools="$home/on/$machine/toolchain"
+  tools=$(kit_tools)
   emulator="$tools/bin/qemu-x86_64"
   if [ "$machine" = x86_64 ]; then
     emulator=

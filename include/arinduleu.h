@@ -1,0 +1,267 @@
+/*
+ * Arinduleu: what a USB-C charger port advertises (SPR source capabilities with SPR AVS), the answers to the requests that come
+ * back, and one supply shared by up to eight ports.
+ *
+ * The same header serves two libraries with the same calls. Link one of them:
+ *   - libboard.a, which `rt staticlib board` writes to target/staticlib, for x86-64;
+ *   - libarinduleu_c.a, which cargo makes from rust/c, for any target that rustc knows.
+ *
+ * Answers. Any argument may be wrong: the answer is then a refusal, with its number and its place. All else in the answer is
+ * zero, a list is empty, and no row is written. Success is number 0, place 0. Each call names its refusals in the order in which
+ * they are looked for: the first that applies is given. Places count from 1; where no place is named it is 0.
+ *
+ * Lists. A list is seven places and a count. Places past the count come back as zero and are not read on the way in.
+ *
+ * Rows. The caller keeps one row for each port and lends them to each sharing call, as a pointer and a count.
+ *   - For a count above zero the caller owes a pointer to that many rows, aligned as `struct arin_row` is, that nothing else
+ *     touches during the call (for arin_remaining: that nothing else writes). No library can check this.
+ *   - A count of zero is refused with 30, whatever the pointer, null too.
+ *   - A count above 8 is refused with 30. The rows are owed all the same.
+ *   - Port n is rows[n - 1].
+ *   - Set up once. After that only the calls write the rows.
+ *
+ * Nothing is allocated, nothing blocks, and no state is kept but the rows. Calls on different rows may run at the same time.
+ */
+#ifndef ARINDULEU_H
+#define ARINDULEU_H
+
+#include <stddef.h>
+#include <stdint.h>
+
+#ifdef __cplusplus
+extern "C" {
+#endif
+
+/* The most words in a list, and the most rows in a call. */
+enum { ARIN_LIST_PLACES = 7, ARIN_MOST_ROWS = 8 };
+
+/* The refusal numbers. There is no 8. */
+enum arin_refusal {
+    ARIN_SUCCESS = 0,
+
+    /* A profile. */
+    ARIN_PORT_MAXIMUM = 1,      /* port maximum outside 1..200 */
+    ARIN_PRESENT_POWER = 2,     /* present power outside 1..port maximum */
+    ARIN_CABLE = 3,             /* cable not 3 or 5 */
+    ARIN_NOT_A_CHOICE = 4,      /* rounding or PPS wanted above 1; at set-up the place is the row */
+    ARIN_FLAGS = 5,             /* flags above 63 */
+    ARIN_PPS_BELOW_MAXIMUM = 6, /* PPS wanted and present power below the maximum */
+
+    /* Writing an object. */
+    ARIN_FIELD_TOO_WIDE = 7, /* a field too wide for its bits; the place is the object */
+
+    /* An input record of the program caps. No call gives it. */
+    ARIN_RECORD_SHORT = 9,
+
+    /* The shape of a list. The place of 11 to 17 is the word. */
+    ARIN_COUNT = 10,               /* count not 1..7 */
+    ARIN_FIRST_NOT_FIXED_5_V = 11, /* first object not fixed 5 V */
+    ARIN_KIND_NOT_ALLOWED = 12,    /* no kind of an SPR list */
+    ARIN_RESERVED_BIT = 13,        /* reserved bit set in an object */
+    ARIN_ORDER = 14,               /* order of the objects, or a second AVS */
+    ARIN_VOLTAGE_BOUND = 15,       /* fixed above 20 V; battery, variable or PPS above 21 V, or minimum above maximum */
+    ARIN_POWER_OVER_100_W = 16,    /* fixed, battery or variable over 100 W */
+    ARIN_AVS_DIFFERS = 17,         /* AVS differs from its fixed objects */
+
+    /* A list against its profile. */
+    ARIN_WRONG_SET = 18,           /* wrong set of objects */
+    ARIN_CURRENT_NOT_ALLOWED = 19, /* the place is the first such word */
+
+    /* A request. The place is always 0. */
+    ARIN_POSITION = 20,                /* position not 1..count */
+    ARIN_RESERVED_BIT_IN_REQUEST = 21, /* reserved bit set in the request */
+    ARIN_VOLTAGE_OUTSIDE = 22,         /* voltage outside the range of the object */
+    ARIN_AVS_VOLTAGE_NOT_WHOLE = 23,   /* AVS voltage not a whole 100 mV */
+    ARIN_OPERATING_TOO_LARGE = 24,     /* operating figure above the advertised one */
+    ARIN_MAXIMUM_TOO_LARGE = 25,       /* maximum figure above it, and no capability mismatch (bit 26) */
+
+    /* Ports that share. */
+    ARIN_ROW_COUNT = 30,         /* row count not 1..8 */
+    ARIN_SET_UP_MAXIMUM = 31,    /* port maximum outside 15..200 at set-up; the place is the row */
+    ARIN_CAPACITY = 32,          /* capacity outside 15 times the row count .. 1600 */
+    ARIN_NO_SUCH_PORT = 33,      /* port not 1..row count */
+    ARIN_PORT_IN_USE = 34,       /* the place is the row */
+    ARIN_PORT_NOT_ATTACHED = 35, /* the place is the row */
+    ARIN_NO_POWER_NOW = 36,      /* a good request, but the other ports hold the power; the place is the row */
+    ARIN_ROWS_NOT_SOUND = 37     /* the place is the first row at fault, or 0 when only the sum of what is held is */
+};
+
+/* The kinds of objects, for arin_flat_object. */
+enum arin_kind {
+    ARIN_KIND_FIXED = 0,
+    ARIN_KIND_BATTERY = 1,
+    ARIN_KIND_VARIABLE = 2,
+    ARIN_KIND_PPS = 3,
+    ARIN_KIND_AVS = 4
+};
+
+/* What a call answers. */
+struct arin_verdict {
+    uint8_t number; /* one of arin_refusal */
+    uint8_t place;  /* counts from 1; 0 where there is none */
+};
+
+/* What a list is built for and checked against. */
+struct arin_profile {
+    uint16_t max;     /* port maximum, half watts, 1..200 */
+    uint16_t present; /* present power, half watts, 1..max */
+    uint8_t cable;    /* amperes, 3 or 5 */
+    uint8_t rounding; /* of the currents: 0 down, 1 up */
+    uint8_t pps;      /* PPS wanted, 0 or 1 */
+    uint8_t flags;    /* 0..63: bits 29..24 of the first word */
+};
+
+struct arin_profiled {
+    struct arin_verdict verdict;
+    struct arin_profile profile;
+};
+
+/* A list as it goes over the wire: the words of Source_Capabilities, in order. */
+struct arin_words {
+    uint32_t words[ARIN_LIST_PLACES];
+    uint8_t count; /* 1..7; 0 on a refusal */
+};
+
+struct arin_listing {
+    struct arin_verdict verdict;
+    struct arin_words list;
+};
+
+/*
+ * One object of any kind. Each field has one unit, whatever the kind. A field that the kind does not have is zero when it is
+ * given out, and not read when it is taken in.
+ */
+struct arin_flat_object {
+    uint8_t kind;       /* one of arin_kind */
+    uint8_t flags;      /* fixed: bits 29..23 of the word; in a built list this is twice the profile's flags */
+    uint8_t peak;       /* fixed and AVS: peak current, 0..3, as the two bits of the word */
+    uint8_t limited;    /* PPS: power limited, 0 or 1 */
+    uint16_t volts;     /* fixed: voltage, 50 mV */
+    uint16_t max;       /* battery and variable: maximum voltage, 50 mV */
+    uint16_t min;       /* battery and variable: minimum voltage, 50 mV */
+    uint16_t power;     /* battery: power, 250 mW */
+    uint16_t current;   /* fixed and variable: current, 10 mA */
+    uint16_t max100;    /* PPS: maximum voltage, 100 mV */
+    uint16_t min100;    /* PPS: minimum voltage, 100 mV */
+    uint16_t current50; /* PPS: current, 50 mA */
+    uint16_t low;       /* AVS: current for 9 to 15 V, 10 mA */
+    uint16_t high;      /* AVS: current for 15 to 20 V, 10 mA; 0 where the range ends at 15 V */
+};
+
+/* A list of objects. */
+struct arin_flat_objects {
+    struct arin_flat_object places[ARIN_LIST_PLACES];
+    uint8_t count; /* 1..7; 0 on a refusal */
+};
+
+struct arin_flat_reading {
+    struct arin_verdict verdict;
+    struct arin_flat_objects list;
+};
+
+/* One port. Fill in max and pps before set-up; the calls see to the rest. */
+struct arin_row {
+    uint16_t max;     /* port maximum, half watts, 15..200 */
+    uint8_t pps;      /* PPS wanted, 0 or 1 */
+    uint8_t cable;    /* amperes, 3 or 5; 0 when the port is empty */
+    uint16_t present; /* power that its latest list was made for, half watts; 0 when the port is empty */
+    uint16_t held;    /* power kept for it, half watts, at least 15 */
+};
+
+struct arin_remaining_power {
+    struct arin_verdict verdict;
+    uint16_t power; /* half watts */
+};
+
+/* ---- Lists and requests ---- */
+
+/*
+ * The default profile of a port maximum in half watts: present power the maximum, 3 A cable, rounded down, no PPS, no flags.
+ * Refusals: 1.
+ */
+struct arin_profiled arin_default_profile(uint16_t max);
+
+/*
+ * The list that a port with this profile advertises.
+ * Refusals: 1, 2, 3, 4, 5, 6.
+ */
+struct arin_listing arin_build(struct arin_profile profile);
+
+/*
+ * Whether a list keeps to the power rules of a profile. Rounding, PPS wanted and flags have to be in range, and do not matter
+ * beyond that.
+ * Refusals: 1, 2, 3, 4, 5; those of arin_shape; 18; 19 (first such word).
+ */
+struct arin_verdict arin_check(struct arin_profile profile, struct arin_words list);
+
+/*
+ * Whether these words make an SPR source list.
+ * Refusals: 10; 11 (place 1); then word by word 12, 13, 15, 16, 14 (the word); 17 (the AVS word).
+ */
+struct arin_verdict arin_shape(struct arin_words list);
+
+/*
+ * The objects of a list.
+ * Refusals: those of arin_shape.
+ */
+struct arin_flat_reading arin_read(struct arin_words list);
+
+/*
+ * The words of a list of objects.
+ * Refusals: 10; 12 for a kind that is none of the five (first such object); 7 (first such object); then those of arin_shape for
+ * the words made.
+ */
+struct arin_listing arin_write(struct arin_flat_objects list);
+
+/*
+ * Whether a request word (RDO) may be accepted on the list that was advertised.
+ * Refusals: those of arin_shape, with their places; then 20, 21, 23, 22, 24, 25.
+ */
+struct arin_verdict arin_answer(struct arin_words list, uint32_t word);
+
+/* ---- Ports that share: capacity is in half watts, from 15 times count to 1600, and the same in each call ---- */
+
+/*
+ * Empties every port: cable 0, present 0, held 15. Of the rows as lent it reads max and pps alone.
+ * Refusals: 30, 32, then row by row 31, 4 (the row).
+ */
+struct arin_verdict arin_set_up(struct arin_row *rows, size_t count, uint16_t capacity);
+
+/*
+ * A cable of 3 or 5 amperes came to an empty port. Sets its present power to the smaller of its maximum and what the other ports
+ * leave, and answers the list to send.
+ * Refusals: 30, 32, 37 (the first row at fault, or 0), 33, 3, 34 (the row).
+ */
+struct arin_listing arin_attach(struct arin_row *rows, size_t count, uint16_t capacity, uint8_t port, uint8_t cable);
+
+/*
+ * The same again for an attached port: its present power anew, and the list to send. What it holds stays.
+ * Refusals: 30, 32, 37 (the first row at fault, or 0), 33, 35 (the row).
+ */
+struct arin_listing arin_advertise(struct arin_row *rows, size_t count, uint16_t capacity, uint8_t port);
+
+/*
+ * Judges a request word (RDO) on the port's latest list. On success the port holds the power asked for: voltage times operating
+ * current, rounded up to a half watt, at least 15 half watts, and for PPS at most its present power. On a refusal it holds what it
+ * held. 36 is given exactly when the other ports leave less than the request would hold.
+ * Refusals: 30, 32, 37 (the first row at fault, or 0), 33, 35 (the row), then 20, 21, 23, 22, 24, 25, then 36 (the row).
+ */
+struct arin_verdict arin_request(struct arin_row *rows, size_t count, uint16_t capacity, uint8_t port, uint32_t word);
+
+/*
+ * The cable of an attached port is gone: empties the port.
+ * Refusals: 30, 32, 37 (the first row at fault, or 0), 33, 35 (the row).
+ */
+struct arin_verdict arin_detach(struct arin_row *rows, size_t count, uint16_t capacity, uint8_t port);
+
+/*
+ * What no port holds. An empty port holds 15 half watts.
+ * Refusals: 30, 32, 37 (the first row at fault, or 0).
+ */
+struct arin_remaining_power arin_remaining(const struct arin_row *rows, size_t count, uint16_t capacity);
+
+#ifdef __cplusplus
+}
+#endif
+
+#endif

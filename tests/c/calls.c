@@ -1,0 +1,611 @@
+/*
+ * Each call of arinduleu.h on good and on refused input. The values are those of 01, "Checked by hand", or worked out from it.
+ * The file is C and C++ at once, so that the header's extern "C" is linked with too.
+ */
+#include <stdio.h>
+
+#include "arinduleu.h"
+
+static int passed, failed;
+
+/* Only the first wrong line is printed. */
+static void check(int right, int line, const char *text)
+{
+    if (right)
+        passed++;
+    else if (failed++ == 0)
+        printf("calls: line %d is wrong: %s\n", line, text);
+}
+
+#define CHECK(right) check((right), __LINE__, #right)
+
+/* ---- Making ---- */
+
+static struct arin_profile profile(uint16_t max, uint16_t present, uint8_t cable, uint8_t rounding, uint8_t pps, uint8_t flags)
+{
+    struct arin_profile p;
+
+    p.max = max;
+    p.present = present;
+    p.cable = cable;
+    p.rounding = rounding;
+    p.pps = pps;
+    p.flags = flags;
+    return p;
+}
+
+/* The words past the count are no objects: a call that read them would refuse. */
+static struct arin_words words(uint8_t count, uint32_t a, uint32_t b, uint32_t c, uint32_t d, uint32_t e, uint32_t f)
+{
+    const uint32_t given[] = { a, b, c, d, e, f };
+    struct arin_words list;
+    int i;
+
+    for (i = 0; i < ARIN_LIST_PLACES; i++)
+        list.words[i] = i < count && i < 6 ? given[i] : 0xFFFFFFFF;
+    list.count = count;
+    return list;
+}
+
+static struct arin_words list_36_w(void)
+{
+    return words(6, 0x0001912C, 0x0002D12C, 0x0004B0F0, 0xE003C000, 0xC8DC323C, 0xC9403230);
+}
+
+/* L: 300, 300, 300, 325; AVS 300 and 325. */
+static struct arin_words list_l(void)
+{
+    return words(5, 0x0001912C, 0x0002D12C, 0x0004B12C, 0x00064145, 0xE004B145, 0);
+}
+
+static struct arin_flat_object no_object(uint8_t kind)
+{
+    static const struct arin_flat_object zero = { 0, 0, 0, 0, 0, 0, 0, 0, 0, 0, 0, 0, 0, 0 };
+    struct arin_flat_object o = zero;
+
+    o.kind = kind;
+    return o;
+}
+
+static struct arin_flat_object fixed(uint8_t flags, uint16_t volts, uint16_t current)
+{
+    struct arin_flat_object o = no_object(ARIN_KIND_FIXED);
+
+    o.flags = flags;
+    o.volts = volts;
+    o.current = current;
+    return o;
+}
+
+static struct arin_flat_object battery(uint16_t max, uint16_t min, uint16_t power)
+{
+    struct arin_flat_object o = no_object(ARIN_KIND_BATTERY);
+
+    o.max = max;
+    o.min = min;
+    o.power = power;
+    return o;
+}
+
+static struct arin_flat_object variable(uint16_t max, uint16_t min, uint16_t current)
+{
+    struct arin_flat_object o = no_object(ARIN_KIND_VARIABLE);
+
+    o.max = max;
+    o.min = min;
+    o.current = current;
+    return o;
+}
+
+static struct arin_flat_object pps(uint8_t limited, uint16_t max, uint16_t min, uint16_t current)
+{
+    struct arin_flat_object o = no_object(ARIN_KIND_PPS);
+
+    o.limited = limited;
+    o.max100 = max;
+    o.min100 = min;
+    o.current50 = current;
+    return o;
+}
+
+static struct arin_flat_object avs(uint8_t peak, uint16_t low, uint16_t high)
+{
+    struct arin_flat_object o = no_object(ARIN_KIND_AVS);
+
+    o.peak = peak;
+    o.low = low;
+    o.high = high;
+    return o;
+}
+
+/* The objects of list_36_w. The place past the count is of no kind: a call that read it would refuse. */
+static struct arin_flat_objects objects_36_w(void)
+{
+    struct arin_flat_objects list;
+
+    list.places[0] = fixed(0, 100, 300);
+    list.places[1] = fixed(0, 180, 300);
+    list.places[2] = fixed(0, 300, 240);
+    list.places[3] = avs(0, 240, 0);
+    list.places[4] = pps(1, 110, 50, 60);
+    list.places[5] = pps(1, 160, 50, 48);
+    list.places[6] = no_object(9);
+    list.count = 6;
+    return list;
+}
+
+/* 5 V at 3 A, a battery supply of 5 to 20 V and 100 W, a variable one of 5 to 21 V at 2 A. */
+static struct arin_flat_objects objects_of_three(void)
+{
+    struct arin_flat_objects list = objects_36_w();
+
+    list.places[0] = fixed(0x41, 100, 300);
+    list.places[1] = battery(400, 100, 400);
+    list.places[2] = variable(420, 100, 200);
+    list.count = 3;
+    return list;
+}
+
+static struct arin_words list_of_three(void)
+{
+    return words(3, 0x2081912C, 0x59019190, 0x9A4190C8, 0, 0, 0);
+}
+
+static struct arin_row row(uint16_t max, uint8_t pps_wanted, uint8_t cable, uint16_t present, uint16_t held)
+{
+    struct arin_row r;
+
+    r.max = max;
+    r.pps = pps_wanted;
+    r.cable = cable;
+    r.present = present;
+    r.held = held;
+    return r;
+}
+
+/* Fixed supplies: position, and the current in 10 mA as both figures. */
+static uint32_t ask(uint32_t position, uint32_t current)
+{
+    return (position << 28) | (current << 10) | current;
+}
+
+/* AVS and PPS: the voltage in the step of the kind, the current in 50 mA. */
+static uint32_t ask_volts(uint32_t position, uint32_t volts, uint32_t current)
+{
+    return (position << 28) | (volts << 9) | current;
+}
+
+/* ---- Comparing ---- */
+
+static int is(struct arin_verdict v, int number, int place)
+{
+    return v.number == number && v.place == place;
+}
+
+static int is_profile(struct arin_profile p, struct arin_profile wanted)
+{
+    return p.max == wanted.max && p.present == wanted.present && p.cable == wanted.cable && p.rounding == wanted.rounding &&
+           p.pps == wanted.pps && p.flags == wanted.flags;
+}
+
+/* Success, the words that count, and zero past them. */
+static int lists(struct arin_listing got, struct arin_words wanted)
+{
+    int i;
+
+    if (!is(got.verdict, 0, 0) || got.list.count != wanted.count)
+        return 0;
+    for (i = 0; i < ARIN_LIST_PLACES; i++) {
+        if (got.list.words[i] != (i < wanted.count ? wanted.words[i] : 0))
+            return 0;
+    }
+    return 1;
+}
+
+static int no_list(struct arin_listing got, int number, int place)
+{
+    int i;
+
+    for (i = 0; i < ARIN_LIST_PLACES; i++) {
+        if (got.list.words[i] != 0)
+            return 0;
+    }
+    return is(got.verdict, number, place) && got.list.count == 0;
+}
+
+static int is_object(struct arin_flat_object o, struct arin_flat_object w)
+{
+    return o.kind == w.kind && o.flags == w.flags && o.peak == w.peak && o.limited == w.limited && o.volts == w.volts &&
+           o.max == w.max && o.min == w.min && o.power == w.power && o.current == w.current && o.max100 == w.max100 &&
+           o.min100 == w.min100 && o.current50 == w.current50 && o.low == w.low && o.high == w.high;
+}
+
+static int reads(struct arin_flat_reading got, struct arin_flat_objects wanted)
+{
+    int i;
+
+    if (!is(got.verdict, 0, 0) || got.list.count != wanted.count)
+        return 0;
+    for (i = 0; i < ARIN_LIST_PLACES; i++) {
+        if (!is_object(got.list.places[i], i < wanted.count ? wanted.places[i] : no_object(0)))
+            return 0;
+    }
+    return 1;
+}
+
+static int no_reading(struct arin_flat_reading got, int number, int place)
+{
+    int i;
+
+    for (i = 0; i < ARIN_LIST_PLACES; i++) {
+        if (!is_object(got.list.places[i], no_object(0)))
+            return 0;
+    }
+    return is(got.verdict, number, place) && got.list.count == 0;
+}
+
+static int is_power(struct arin_remaining_power p, int number, int place, int power)
+{
+    return is(p.verdict, number, place) && p.power == power;
+}
+
+static int is_row(struct arin_row r, struct arin_row wanted)
+{
+    return r.max == wanted.max && r.pps == wanted.pps && r.cable == wanted.cable && r.present == wanted.present &&
+           r.held == wanted.held;
+}
+
+/* ---- Lists and requests ---- */
+
+static void default_profiles(void)
+{
+    struct arin_profile none = profile(0, 0, 0, 0, 0, 0);
+    struct arin_profiled p = arin_default_profile(72);
+
+    CHECK(is(p.verdict, ARIN_SUCCESS, 0) && is_profile(p.profile, profile(72, 72, 3, 0, 0, 0)));
+    p = arin_default_profile(1);
+    CHECK(is(p.verdict, 0, 0) && is_profile(p.profile, profile(1, 1, 3, 0, 0, 0)));
+    p = arin_default_profile(200);
+    CHECK(is(p.verdict, 0, 0) && is_profile(p.profile, profile(200, 200, 3, 0, 0, 0)));
+    p = arin_default_profile(0);
+    CHECK(is(p.verdict, ARIN_PORT_MAXIMUM, 0) && is_profile(p.profile, none));
+    p = arin_default_profile(201);
+    CHECK(is(p.verdict, 1, 0) && is_profile(p.profile, none));
+    p = arin_default_profile(65535);
+    CHECK(is(p.verdict, 1, 0) && is_profile(p.profile, none));
+}
+
+static struct arin_listing by_max(uint16_t max)
+{
+    return arin_build(arin_default_profile(max).profile);
+}
+
+static void builds(void)
+{
+    CHECK(lists(arin_build(profile(72, 72, 3, 0, 1, 0)), list_36_w()));
+    CHECK(lists(arin_build(profile(160, 130, 5, 0, 0, 0)), list_l()));
+    CHECK(lists(arin_build(profile(160, 80, 5, 1, 0, 0)),
+                words(5, 0x0001912C, 0x0002D12C, 0x0004B10B, 0x000640C8, 0xE0042CC8, 0)));
+    CHECK(lists(arin_build(profile(30, 30, 3, 0, 0, 63)), words(1, 0x3F01912C, 0, 0, 0, 0, 0)));
+    CHECK(lists(by_max(30), words(1, 0x0001912C, 0, 0, 0, 0, 0)));
+    CHECK(lists(by_max(31), words(2, 0x0001912C, 0x0002D0AC, 0, 0, 0, 0)));
+    CHECK(lists(by_max(54), words(2, 0x0001912C, 0x0002D12C, 0, 0, 0, 0)));
+    CHECK(lists(by_max(55), words(4, 0x0001912C, 0x0002D12C, 0x0004B0B7, 0xE002DC00, 0, 0)));
+    CHECK(lists(by_max(80), words(4, 0x0001912C, 0x0002D12C, 0x0004B10A, 0xE0042800, 0, 0)));
+    CHECK(lists(by_max(90), words(4, 0x0001912C, 0x0002D12C, 0x0004B12C, 0xE004B000, 0, 0)));
+    CHECK(lists(by_max(91), words(5, 0x0001912C, 0x0002D12C, 0x0004B12C, 0x000640E3, 0xE004B0E3, 0)));
+}
+
+/* Each profile has all the faults that come later, so the order shows too. */
+static void builds_none(void)
+{
+    CHECK(no_list(arin_build(profile(0, 1, 4, 2, 2, 64)), ARIN_PORT_MAXIMUM, 0));
+    CHECK(no_list(arin_build(profile(201, 202, 4, 2, 2, 64)), 1, 0));
+    CHECK(no_list(arin_build(profile(72, 73, 4, 2, 2, 64)), ARIN_PRESENT_POWER, 0));
+    CHECK(no_list(arin_build(profile(72, 0, 4, 2, 2, 64)), 2, 0));
+    CHECK(no_list(arin_build(profile(72, 71, 4, 2, 2, 64)), ARIN_CABLE, 0));
+    CHECK(no_list(arin_build(profile(72, 71, 5, 2, 1, 64)), ARIN_NOT_A_CHOICE, 0));
+    CHECK(no_list(arin_build(profile(72, 71, 5, 1, 2, 64)), 4, 0));
+    CHECK(no_list(arin_build(profile(72, 71, 5, 1, 1, 64)), ARIN_FLAGS, 0));
+    CHECK(no_list(arin_build(profile(72, 71, 5, 1, 1, 63)), ARIN_PPS_BELOW_MAXIMUM, 0));
+}
+
+static void checks(void)
+{
+    struct arin_profile p = profile(160, 130, 5, 0, 0, 0);
+    struct arin_words low = words(5, 0x0001912C, 0x0002D12C, 0x0004B12C, 0x00064144, 0xE004B144, 0);
+
+    CHECK(is(arin_check(p, list_l()), 0, 0));
+    CHECK(is(arin_check(profile(72, 72, 3, 0, 0, 0), list_36_w()), 0, 0));
+    /* 6 is the builder's alone. */
+    CHECK(is(arin_check(profile(160, 130, 5, 0, 1, 0), list_l()), 0, 0));
+    CHECK(is(arin_check(profile(0, 1, 4, 2, 2, 64), words(0, 0, 0, 0, 0, 0, 0)), 1, 0));
+    CHECK(is(arin_check(profile(72, 73, 4, 2, 2, 64), list_36_w()), 2, 0));
+    CHECK(is(arin_check(profile(72, 72, 4, 2, 2, 64), list_36_w()), 3, 0));
+    CHECK(is(arin_check(profile(72, 72, 3, 2, 2, 64), list_36_w()), 4, 0));
+    CHECK(is(arin_check(profile(72, 72, 3, 0, 0, 64), list_36_w()), 5, 0));
+    CHECK(is(arin_check(p, words(0, 0, 0, 0, 0, 0, 0)), ARIN_COUNT, 0));
+    CHECK(is(arin_check(p, words(2, 0x0001912C, 0x0001912C, 0, 0, 0, 0)), ARIN_ORDER, 2));
+    CHECK(is(arin_check(p, list_36_w()), ARIN_WRONG_SET, 0));
+    CHECK(is(arin_check(profile(72, 71, 3, 0, 0, 0), list_36_w()), 18, 0));
+    CHECK(is(arin_check(p, low), ARIN_CURRENT_NOT_ALLOWED, 4));
+}
+
+static struct arin_words after_5_v(uint32_t second)
+{
+    return words(2, 0x0001912C, second, 0, 0, 0, 0);
+}
+
+static void shapes(void)
+{
+    CHECK(is(arin_shape(list_l()), 0, 0));
+    CHECK(is(arin_shape(list_36_w()), 0, 0));
+    CHECK(is(arin_shape(list_of_three()), 0, 0));
+    CHECK(is(arin_shape(words(0, 0, 0, 0, 0, 0, 0)), ARIN_COUNT, 0));
+    CHECK(is(arin_shape(words(8, 0x0001912C, 0, 0, 0, 0, 0)), 10, 0));
+    CHECK(is(arin_shape(words(255, 0x0001912C, 0, 0, 0, 0, 0)), 10, 0));
+    CHECK(is(arin_shape(words(1, 0x0002D12C, 0, 0, 0, 0, 0)), ARIN_FIRST_NOT_FIXED_5_V, 1));
+    CHECK(is(arin_shape(after_5_v(0xD0000000)), ARIN_KIND_NOT_ALLOWED, 2));
+    CHECK(is(arin_shape(after_5_v(0xF0000000)), 12, 2));
+    CHECK(is(arin_shape(words(1, 0x0041912C, 0, 0, 0, 0, 0)), ARIN_RESERVED_BIT, 1));
+    CHECK(is(arin_shape(after_5_v(0x0042D12C)), 13, 2));
+    CHECK(is(arin_shape(words(3, 0x0001912C, 0x0004B12C, 0x0002D12C, 0, 0, 0)), ARIN_ORDER, 3));
+    /* 20.05 V at 1 A, then 20 V at 5.01 A. */
+    CHECK(is(arin_shape(after_5_v(0x00064464)), ARIN_VOLTAGE_BOUND, 2));
+    CHECK(is(arin_shape(after_5_v(0x000641F5)), ARIN_POWER_OVER_100_W, 2));
+    CHECK(is(arin_shape(words(5, 0x0001912C, 0x0002D12C, 0x0004B12C, 0x00064145, 0xE004B144, 0)), ARIN_AVS_DIFFERS, 5));
+}
+
+static void reading(void)
+{
+    CHECK(reads(arin_read(list_36_w()), objects_36_w()));
+    CHECK(reads(arin_read(list_of_three()), objects_of_three()));
+    CHECK(no_reading(arin_read(words(0, 0, 0, 0, 0, 0, 0)), 10, 0));
+    CHECK(no_reading(arin_read(words(8, 0x0001912C, 0, 0, 0, 0, 0)), 10, 0));
+    CHECK(no_reading(arin_read(words(1, 0x0002D12C, 0, 0, 0, 0, 0)), 11, 1));
+    CHECK(no_reading(arin_read(after_5_v(0xD0000000)), 12, 2));
+}
+
+static void writing(void)
+{
+    struct arin_flat_objects list = objects_36_w();
+
+    CHECK(lists(arin_write(list), list_36_w()));
+    CHECK(lists(arin_write(objects_of_three()), list_of_three()));
+    /* Fields that the kind does not have are not read. */
+    list.places[0].limited = 255;
+    list.places[0].high = 65535;
+    list.places[3].current = 65535;
+    CHECK(lists(arin_write(list), list_36_w()));
+
+    list = objects_36_w();
+    list.count = 0;
+    CHECK(no_list(arin_write(list), ARIN_COUNT, 0));
+    list.count = 8;
+    CHECK(no_list(arin_write(list), 10, 0));
+    list = objects_36_w();
+    list.places[1].current = 1024;
+    CHECK(no_list(arin_write(list), ARIN_FIELD_TOO_WIDE, 2));
+    list.places[4].kind = 5;
+    CHECK(no_list(arin_write(list), ARIN_KIND_NOT_ALLOWED, 5));
+    list = objects_36_w();
+    list.places[0].volts = 101;
+    list.places[5].limited = 2;
+    CHECK(no_list(arin_write(list), 7, 6));
+    list.places[5].limited = 1;
+    CHECK(no_list(arin_write(list), ARIN_FIRST_NOT_FIXED_5_V, 1));
+    list = objects_36_w();
+    list.places[1].flags = 1;
+    CHECK(no_list(arin_write(list), ARIN_RESERVED_BIT, 2));
+}
+
+/* 600 steps of 25 mV are 15.0 V, 596 are 14.9 V, 356 are 8.9 V; 65 steps of 50 mA are 3.25 A. */
+static void answers(void)
+{
+    struct arin_words l = list_l();
+    struct arin_words three = list_of_three();
+
+    CHECK(is(arin_answer(l, ask_volts(5, 600, 65)), 0, 0));
+    CHECK(is(arin_answer(l, ask_volts(5, 600, 66)), ARIN_OPERATING_TOO_LARGE, 0));
+    CHECK(is(arin_answer(l, ask_volts(5, 596, 65)), 24, 0));
+    CHECK(is(arin_answer(l, ask_volts(5, 602, 65)), ARIN_AVS_VOLTAGE_NOT_WHOLE, 0));
+    CHECK(is(arin_answer(l, ask_volts(5, 356, 65)), ARIN_VOLTAGE_OUTSIDE, 0));
+    CHECK(is(arin_answer(l, ask_volts(6, 600, 65)), ARIN_POSITION, 0));
+    CHECK(is(arin_answer(l, 0), 20, 0));
+    CHECK(is(arin_answer(l, ask(4, 325)), 0, 0));
+    CHECK(is(arin_answer(l, ask(4, 326)), 24, 0));
+    CHECK(is(arin_answer(l, 0x40051546), ARIN_MAXIMUM_TOO_LARGE, 0));
+    CHECK(is(arin_answer(l, 0x44051546), 0, 0));
+    CHECK(is(arin_answer(l, 0x48051545), ARIN_RESERVED_BIT_IN_REQUEST, 0));
+    /* 9 V Prog of the 36 W list: 11 V is 550 steps of 20 mV. */
+    CHECK(is(arin_answer(list_36_w(), ask_volts(5, 550, 60)), 0, 0));
+    CHECK(is(arin_answer(list_36_w(), ask_volts(5, 551, 60)), 22, 0));
+    CHECK(is(arin_answer(three, ask(2, 400)), 0, 0));
+    CHECK(is(arin_answer(three, ask(2, 401)), 24, 0));
+    CHECK(is(arin_answer(three, ask(3, 200)), 0, 0));
+    CHECK(is(arin_answer(words(0, 0, 0, 0, 0, 0, 0), ask(4, 325)), ARIN_COUNT, 0));
+    CHECK(is(arin_answer(after_5_v(0xD0000000), ask(1, 300)), ARIN_KIND_NOT_ALLOWED, 2));
+}
+
+/* ---- Ports that share ---- */
+
+/* The marked run of 01: capacity 200, two rows of M 130, 5 A. */
+static void marked_run(void)
+{
+    struct arin_words at_70 = words(5, 0x0001912C, 0x0002D12C, 0x0004B0E9, 0x000640AF, 0xE003A4AF, 0);
+    struct arin_row r[2];
+
+    r[0] = row(130, 0, 4, 99, 3);
+    r[1] = row(130, 0, 5, 65535, 65535);
+    CHECK(is(arin_set_up(r, 2, 200), 0, 0));
+    CHECK(is_row(r[0], row(130, 0, 0, 0, 15)) && is_row(r[1], row(130, 0, 0, 0, 15)));
+    CHECK(is_power(arin_remaining(r, 2, 200), 0, 0, 170));
+
+    CHECK(lists(arin_attach(r, 2, 200, 1, 5), list_l()));
+    CHECK(is_row(r[0], row(130, 0, 5, 130, 15)) && is_row(r[1], row(130, 0, 0, 0, 15)));
+    CHECK(is(arin_request(r, 2, 200, 1, ask(4, 325)), 0, 0));
+    CHECK(is_row(r[0], row(130, 0, 5, 130, 130)) && is_row(r[1], row(130, 0, 0, 0, 15)));
+    CHECK(is_power(arin_remaining(r, 2, 200), 0, 0, 55));
+    CHECK(lists(arin_attach(r, 2, 200, 2, 5), at_70));
+    CHECK(is_row(r[1], row(130, 0, 5, 70, 15)));
+
+    CHECK(is(arin_request(r, 2, 200, 1, ask(2, 200)), 0, 0));
+    CHECK(is_row(r[0], row(130, 0, 5, 130, 36)));
+    CHECK(lists(arin_advertise(r, 2, 200, 2), list_l()));
+    CHECK(is_row(r[1], row(130, 0, 5, 130, 15)));
+    CHECK(is(arin_request(r, 2, 200, 2, ask(4, 325)), 0, 0));
+    CHECK(is_row(r[1], row(130, 0, 5, 130, 130)));
+    CHECK(is(arin_request(r, 2, 200, 1, ask(4, 325)), ARIN_NO_POWER_NOW, 1));
+    CHECK(is_row(r[0], row(130, 0, 5, 130, 36)) && is_row(r[1], row(130, 0, 5, 130, 130)));
+    CHECK(is(arin_request(r, 2, 200, 1, ask(2, 300)), 0, 0));
+    CHECK(is_row(r[0], row(130, 0, 5, 130, 54)));
+    CHECK(is_power(arin_remaining(r, 2, 200), 0, 0, 16));
+
+    CHECK(is(arin_detach(r, 2, 200, 2), 0, 0));
+    CHECK(is_row(r[0], row(130, 0, 5, 130, 54)) && is_row(r[1], row(130, 0, 0, 0, 15)));
+    CHECK(is_power(arin_remaining(r, 2, 200), 0, 0, 131));
+}
+
+/* One port of 36 W with PPS gets the listing of 01. Eight ports are the most. */
+static void more_runs(void)
+{
+    struct arin_row r[8];
+    int i;
+
+    for (i = 0; i < 8; i++)
+        r[i] = row(72, 1, 0, 0, 0);
+    CHECK(is(arin_set_up(r, 1, 1600), 0, 0));
+    CHECK(lists(arin_attach(r, 1, 1600, 1, 3), list_36_w()));
+    CHECK(is_row(r[0], row(72, 1, 3, 72, 15)) && is_row(r[1], row(72, 1, 0, 0, 0)));
+    CHECK(is(arin_set_up(r, 8, 120), 0, 0));
+    for (i = 0; i < 8; i++)
+        CHECK(is_row(r[i], row(72, 1, 0, 0, 15)));
+    CHECK(lists(arin_attach(r, 8, 1600, 8, 3), list_36_w()));
+    CHECK(is_row(r[7], row(72, 1, 3, 72, 15)));
+    CHECK(is_power(arin_remaining(r, 8, 1600), 0, 0, 1480));
+}
+
+static void sets_up_none(void)
+{
+    struct arin_row r[2];
+
+    r[0] = row(130, 0, 1, 2, 3);
+    r[1] = row(14, 2, 1, 2, 3);
+    CHECK(is(arin_set_up(r, 2, 29), ARIN_CAPACITY, 0));
+    CHECK(is(arin_set_up(r, 2, 1601), 32, 0));
+    CHECK(is(arin_set_up(r, 2, 200), ARIN_SET_UP_MAXIMUM, 2));
+    CHECK(is_row(r[0], row(130, 0, 1, 2, 3)) && is_row(r[1], row(14, 2, 1, 2, 3)));
+    r[1] = row(200, 2, 1, 2, 3);
+    CHECK(is(arin_set_up(r, 2, 200), ARIN_NOT_A_CHOICE, 2));
+    CHECK(is_row(r[0], row(130, 0, 1, 2, 3)) && is_row(r[1], row(200, 2, 1, 2, 3)));
+}
+
+/* Port 1 is attached and port 2 is empty. No call below writes a row. */
+static void refused_for_their_own_reasons(void)
+{
+    struct arin_row one = row(130, 0, 5, 130, 36);
+    struct arin_row two = row(130, 0, 0, 0, 15);
+    struct arin_row r[2];
+
+    r[0] = one;
+    r[1] = two;
+    CHECK(no_list(arin_attach(r, 2, 29, 9, 4), ARIN_CAPACITY, 0));
+    CHECK(no_list(arin_attach(r, 2, 200, 0, 4), ARIN_NO_SUCH_PORT, 0));
+    CHECK(no_list(arin_attach(r, 2, 200, 3, 4), 33, 0));
+    CHECK(no_list(arin_attach(r, 2, 200, 1, 4), ARIN_CABLE, 0));
+    CHECK(no_list(arin_attach(r, 2, 200, 1, 5), ARIN_PORT_IN_USE, 1));
+
+    CHECK(no_list(arin_advertise(r, 2, 1601, 9), 32, 0));
+    CHECK(no_list(arin_advertise(r, 2, 200, 3), 33, 0));
+    CHECK(no_list(arin_advertise(r, 2, 200, 2), ARIN_PORT_NOT_ATTACHED, 2));
+
+    CHECK(is(arin_request(r, 2, 1601, 9, 0), 32, 0));
+    CHECK(is(arin_request(r, 2, 200, 255, 0), 33, 0));
+    CHECK(is(arin_request(r, 2, 200, 2, 0), 35, 2));
+    CHECK(is(arin_request(r, 2, 200, 1, 0), ARIN_POSITION, 0));
+    CHECK(is(arin_request(r, 2, 200, 1, ask(4, 326)), ARIN_OPERATING_TOO_LARGE, 0));
+
+    CHECK(is(arin_detach(r, 2, 1601, 9), 32, 0));
+    CHECK(is(arin_detach(r, 2, 200, 3), 33, 0));
+    CHECK(is(arin_detach(r, 2, 200, 2), 35, 2));
+
+    CHECK(is_power(arin_remaining(r, 2, 1601), 32, 0, 0));
+    CHECK(is_row(r[0], one) && is_row(r[1], two));
+}
+
+/* Rows that are not sound: a row at fault has its place, the sum has none. Set-up alone does not look. */
+static void not_sound(void)
+{
+    struct arin_row one = row(130, 0, 5, 130, 130);
+    struct arin_row two = row(130, 0, 5, 130, 14);
+    struct arin_row r[2];
+
+    r[0] = one;
+    r[1] = two;
+    CHECK(no_list(arin_attach(r, 2, 200, 9, 4), ARIN_ROWS_NOT_SOUND, 2));
+    CHECK(no_list(arin_advertise(r, 2, 200, 9), 37, 2));
+    CHECK(is(arin_request(r, 2, 200, 9, 0), 37, 2));
+    CHECK(is(arin_detach(r, 2, 200, 9), 37, 2));
+    CHECK(is_power(arin_remaining(r, 2, 200), 37, 2, 0));
+    CHECK(is_row(r[0], one) && is_row(r[1], two));
+
+    two = row(130, 0, 5, 130, 71);
+    r[1] = two;
+    CHECK(no_list(arin_attach(r, 2, 200, 9, 4), 37, 0));
+    CHECK(no_list(arin_advertise(r, 2, 200, 9), 37, 0));
+    CHECK(is(arin_request(r, 2, 200, 9, 0), 37, 0));
+    CHECK(is(arin_detach(r, 2, 200, 9), 37, 0));
+    CHECK(is_power(arin_remaining(r, 2, 200), 37, 0, 0));
+    CHECK(is_row(r[0], one) && is_row(r[1], two));
+}
+
+/* The six calls with a count that is refused. The other arguments are good for the rows of `lent`. */
+static void refused_by_count(struct arin_row *rows, size_t count)
+{
+    CHECK(is(arin_set_up(rows, count, 200), ARIN_ROW_COUNT, 0));
+    CHECK(no_list(arin_attach(rows, count, 200, 2, 5), 30, 0));
+    CHECK(no_list(arin_advertise(rows, count, 200, 1), 30, 0));
+    CHECK(is(arin_request(rows, count, 200, 1, ask(1, 300)), 30, 0));
+    CHECK(is(arin_detach(rows, count, 200, 1), 30, 0));
+    CHECK(is_power(arin_remaining(rows, count, 200), 30, 0, 0));
+}
+
+static void counts(void)
+{
+    struct arin_row lent[9];
+    int i;
+
+    lent[0] = row(130, 0, 5, 130, 20);
+    for (i = 1; i < 9; i++)
+        lent[i] = row(130, 0, 0, 0, 15);
+
+    refused_by_count(NULL, 0);
+    refused_by_count((struct arin_row *)(uintptr_t)1, 0);
+    refused_by_count(lent, 0);
+    refused_by_count(lent, 9);
+    CHECK(is_row(lent[0], row(130, 0, 5, 130, 20)));
+    for (i = 1; i < 9; i++)
+        CHECK(is_row(lent[i], row(130, 0, 0, 0, 15)));
+}
+
+int main(void)
+{
+    default_profiles();
+    builds();
+    builds_none();
+    checks();
+    shapes();
+    reading();
+    writing();
+    answers();
+    marked_run();
+    more_runs();
+    sets_up_none();
+    refused_for_their_own_reasons();
+    not_sound();
+    counts();
+    if (failed != 0)
+        return 1;
+    printf("calls: %d passed, 0 failed\n", passed);
+    return 0;
+}

@@ -1,0 +1,10 @@
+/* What the tests need of this header: the kit's clang comes without headers. */
+#ifndef KIT_STDINT_H
+#define KIT_STDINT_H
+
+typedef __UINT8_TYPE__ uint8_t;
+typedef __UINT16_TYPE__ uint16_t;
+typedef __UINT32_TYPE__ uint32_t;
+typedef __UINTPTR_TYPE__ uintptr_t;
+
+#endif

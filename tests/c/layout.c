@@ -1,0 +1,81 @@
+/* One line for each struct of arinduleu.h: its name, its size, its alignment, then each field with its offset. */
+#include <stdio.h>
+
+#include "arinduleu.h"
+
+#define STRUCT(name) printf("%s %zu %zu", #name, sizeof(struct name), _Alignof(struct name))
+#define FIELD(name, field) printf(" %s %zu", #field, offsetof(struct name, field))
+#define END() printf("\n")
+
+int main(void)
+{
+    STRUCT(arin_verdict);
+    FIELD(arin_verdict, number);
+    FIELD(arin_verdict, place);
+    END();
+
+    STRUCT(arin_profile);
+    FIELD(arin_profile, max);
+    FIELD(arin_profile, present);
+    FIELD(arin_profile, cable);
+    FIELD(arin_profile, rounding);
+    FIELD(arin_profile, pps);
+    FIELD(arin_profile, flags);
+    END();
+
+    STRUCT(arin_profiled);
+    FIELD(arin_profiled, verdict);
+    FIELD(arin_profiled, profile);
+    END();
+
+    STRUCT(arin_words);
+    FIELD(arin_words, words);
+    FIELD(arin_words, count);
+    END();
+
+    STRUCT(arin_listing);
+    FIELD(arin_listing, verdict);
+    FIELD(arin_listing, list);
+    END();
+
+    STRUCT(arin_flat_object);
+    FIELD(arin_flat_object, kind);
+    FIELD(arin_flat_object, flags);
+    FIELD(arin_flat_object, peak);
+    FIELD(arin_flat_object, limited);
+    FIELD(arin_flat_object, volts);
+    FIELD(arin_flat_object, max);
+    FIELD(arin_flat_object, min);
+    FIELD(arin_flat_object, power);
+    FIELD(arin_flat_object, current);
+    FIELD(arin_flat_object, max100);
+    FIELD(arin_flat_object, min100);
+    FIELD(arin_flat_object, current50);
+    FIELD(arin_flat_object, low);
+    FIELD(arin_flat_object, high);
+    END();
+
+    STRUCT(arin_flat_objects);
+    FIELD(arin_flat_objects, places);
+    FIELD(arin_flat_objects, count);
+    END();
+
+    STRUCT(arin_flat_reading);
+    FIELD(arin_flat_reading, verdict);
+    FIELD(arin_flat_reading, list);
+    END();
+
+    STRUCT(arin_row);
+    FIELD(arin_row, max);
+    FIELD(arin_row, pps);
+    FIELD(arin_row, cable);
+    FIELD(arin_row, present);
+    FIELD(arin_row, held);
+    END();
+
+    STRUCT(arin_remaining_power);
+    FIELD(arin_remaining_power, verdict);
+    FIELD(arin_remaining_power, power);
+    END();
+    return 0;
+}

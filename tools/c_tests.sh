@@ -1,0 +1,248 @@
+#!/usr/bin/env bash
+# The tests of the C side: the header, then the example and the tests of the calls, against each library that this machine can make.
+# The last line is `c: N passed, 0 failed, K skipped`.
+set -euo pipefail
+cd "$(dirname "$0")/.."
+who=c
+. tools/kit.sh
+
+case "${1:-}" in
+  "") ;;
+  -h | --help)
+    cat << 'END'
+usage: tools/c_tests.sh
+
+Compiles include/arinduleu.h as C11 and as C++17, and builds and runs
+examples/two_ports.c and the programs in tests/c
+  - with cc, against the library that cargo makes from rust/c;
+  - with the clang of the Rattle kit, against the archive of `rt staticlib board`.
+What this machine has no tools for is skipped, with one line that says so.
+END
+    exit 0
+    ;;
+  *)
+    echo "$who: unknown word '$1' (tools/c_tests.sh --help tells)" >&2
+    exit 2
+    ;;
+esac
+
+warnings=(-Wall -Wextra -Wpedantic -Werror)
+sources=(examples/two_ports.c tests/c/calls.c tests/c/layout.c)
+cargo_library=release/libarinduleu_c.a
+passed=0
+skipped=0
+made=$(mktemp -d)
+trap 'rm -rf "$made"' EXIT
+
+pass() {
+  echo "c: $1"
+  passed=$((passed + 1))
+}
+
+skip() {
+  echo "c: skipped: $1"
+  skipped=$((skipped + 1))
+}
+
+fail() {
+  echo "c: $1" >&2
+  echo "c: $passed passed, 1 failed, $skipped skipped"
+  exit 1
+}
+
+have() {
+  command -v "$1" > /dev/null 2>&1
+}
+
+# quietly WHY COMMAND...: what the command prints is shown only where it fails.
+quietly() {
+  local why=$1
+  shift
+  "$@" > "$made/log" 2>&1 || {
+    tail -n 20 "$made/log" >&2
+    fail "$why"
+  }
+}
+
+# The cargo library loops for ever where it panics, so a program has a limit where the machine has `timeout`.
+limited() {
+  if have timeout; then timeout 60 "$@"; else "$@"; fi
+}
+
+# The program of a source, in the folder of what is made.
+program() {
+  echo "$made/$(basename "$1" .c)"
+}
+
+# Those of the named compilers that are here. One that is here under two names, as cc often is, comes once.
+compilers() {
+  local name path seen=" "
+  for name in "$@"; do
+    have "$name" || continue
+    path=$(readlink -f "$(command -v "$name")")
+    case "$seen" in *" $path "*) continue ;; esac
+    seen="$seen$path "
+    echo "$name"
+  done
+}
+
+# header_as LANGUAGE STANDARD COMPILER...
+header_as() {
+  local language=$1 standard=$2 compiler found
+  shift 2
+  found=$(compilers "$@")
+  if [ -z "$found" ]; then
+    skip "the header as $standard: there is none of $*"
+    return
+  fi
+  printf '#include "arinduleu.h"\n#include "arinduleu.h"\n' > "$made/header"
+  for compiler in $found; do
+    quietly "$compiler does not take the header as $standard" \
+      "$compiler" -x "$language" "-std=$standard" "${warnings[@]}" -Iinclude -fsyntax-only "$made/header"
+    pass "the header is $standard without a warning, by $compiler"
+  done
+}
+
+# The calls, refusal numbers and kinds by name: those of the Rattle source, no more and no less.
+header_names() {
+  {
+    sed -n 's/^pub use .*::\(arin_[a-z_]*\);$/\1/p' crates/board/src/lib.rt
+    sed -n 's/^pub const \([A-Z0-9_]*\): u8 = \([0-9]*\);$/ARIN_\1 = \2/p' crates/verdicts/src/lib.rt crates/flat/src/lib.rt
+  } | sort > "$made/wanted"
+  sed -n -e 's/^struct [a-z_]* \(arin_[a-z_]*\)(.*/\1/p' -e 's/^    \(ARIN_[A-Z0-9_]* = [0-9]*\).*/\1/p' include/arinduleu.h |
+    sort > "$made/named"
+  diff "$made/wanted" "$made/named" >&2 || fail "the header does not name what crates/board, verdicts and flat do"
+  pass "the header names the calls, refusals and kinds of the Rattle source ($(grep -c . "$made/named"))"
+}
+
+# run_example WHERE RUNNER..., and the two below likewise: runs a program that was built, and compares. The runner is the words that
+# stand before the program, or none.
+run_example() {
+  local where=$1
+  shift
+  limited "$@" "$made/two_ports" > "$made/out" || fail "the example ended badly, $where"
+  diff examples/two_ports.out "$made/out" >&2 || fail "the example does not print examples/two_ports.out, $where"
+  pass "the example prints what it should, $where"
+}
+
+run_calls() {
+  local where=$1 count
+  shift
+  limited "$@" "$made/calls" > "$made/out" || {
+    cat "$made/out" >&2
+    fail "a call does not answer as it should, $where"
+  }
+  count=$(sed -n 's/^calls: \([0-9]*\) passed, 0 failed$/\1/p' "$made/out")
+  [ -n "$count" ] || fail "calls ended without its count, $where"
+  pass "each call answers as it should ($count checks), $where"
+}
+
+run_layout() {
+  local where=$1
+  shift
+  limited "$@" "$made/layout" > "$made/out" || fail "layout ended badly, $where"
+  diff tests/c/layout.txt "$made/out" >&2 || fail "the structs are not as tests/c/layout.txt has them, $where"
+  pass "the structs are as tests/c/layout.txt has them, $where"
+}
+
+run_all() {
+  run_example "$@"
+  run_calls "$@"
+  run_layout "$@"
+}
+
+# cargo_build TARGET: $cargo_library in that folder.
+cargo_build() {
+  quietly "cargo does not build arinduleu-c" \
+    cargo build --release --offline --manifest-path rust/Cargo.toml --target-dir "$1" -p arinduleu-c
+}
+
+# with_cc NAME OPTION...: the programs against the cargo library, built with cc and these options.
+with_cc() {
+  local name=$1 source
+  shift
+  for source in "${sources[@]}"; do
+    quietly "cc $* does not build $source" \
+      cc -std=c11 "${warnings[@]}" "$@" -Iinclude "$source" "rust/target/$cargo_library" -o "$(program "$source")"
+  done
+  run_all "against the cargo library, $name"
+}
+
+# The calls once more as a C++ program: it links only because the header says extern "C".
+with_cxx() {
+  quietly "c++ does not build tests/c/calls.c" \
+    c++ -x c++ -std=c++17 "${warnings[@]}" -Iinclude tests/c/calls.c -x none "rust/target/$cargo_library" -o "$made/calls"
+  run_calls "against the cargo library, c++"
+}
+
+# The calls once more with rustc's own checks: a slice from a bad pointer and an overflow panic, and a panic never returns.
+with_checks() {
+  local -x CARGO_PROFILE_RELEASE_DEBUG_ASSERTIONS=true CARGO_PROFILE_RELEASE_OVERFLOW_CHECKS=true
+  cargo_build "$made/checked"
+  quietly "cc does not build tests/c/calls.c" \
+    cc -std=c11 "${warnings[@]}" -Iinclude tests/c/calls.c "$made/checked/$cargo_library" -o "$made/calls"
+  run_calls "against the cargo library with rustc's checks"
+}
+
+with_sanitizers() {
+  # Nothing is allocated, and looking for leaks takes seconds.
+  local -x ASAN_OPTIONS=detect_leaks=0
+  local options=(-O1 -g -fsanitize=address -fsanitize=undefined -fno-sanitize-recover=all)
+  echo 'int main(void) { return 0; }' > "$made/nothing.c"
+  if cc "${options[@]}" "$made/nothing.c" -o "$made/nothing" > /dev/null 2>&1 && "$made/nothing" > /dev/null 2>&1; then
+    with_cc "cc with sanitizers" "${options[@]}"
+  else
+    skip "the sanitizers: cc cannot build and run with them"
+  fi
+}
+
+against_cargo() {
+  local tool
+  for tool in cargo cc; do
+    have "$tool" || { skip "the cargo library: there is no $tool"; return; }
+  done
+  cargo_build rust/target
+  with_cc "cc -O2" -O2
+  with_cc "cc -O0" -O0
+  with_sanitizers
+  if have c++; then with_cxx; else skip "the cargo library from C++: there is no c++"; fi
+  if have timeout; then with_checks; else skip "the cargo library with rustc's checks: there is no timeout"; fi
+}
+
+# with_kit OPTION: the programs against the kit's archive, for x86-64. The kit's clang comes without headers, so tests/c/kit has those
+# that are used.
+with_kit() {
+  local option=$1 tools lib source
+  tools=$(kit_tools)
+  lib="$tools/lib"
+  for source in "${sources[@]}"; do
+    quietly "the kit's clang $option does not compile $source" \
+      "$tools/bin/clang" --target=x86_64-linux-gnu -std=c11 "${warnings[@]}" "$option" -fPIE -nostdinc -isystem tests/c/kit \
+      -Iinclude -c "$source" -o "$made/object.o"
+    quietly "the kit's ld.lld does not link $source" \
+      "$tools/bin/ld.lld" -pie --dynamic-linker "$lib/ld-linux-x86-64.so.2" -o "$(program "$source")" \
+      "$lib/Scrt1.o" "$lib/crti.o" "$lib/crtbeginS.o" "$made/object.o" target/staticlib/libboard.a \
+      "$lib/libc.so.6" "$lib/libc_nonshared.a" "$lib/libgcc.a" "$lib/crtendS.o" "$lib/crtn.o"
+  done
+  # shellcheck disable=SC2046 # the runner is several words
+  run_all "against the kit's archive, clang $option" $(runner)
+}
+
+against_kit() {
+  local tool
+  have rt || { skip "the kit's archive: there is no rt"; return; }
+  for tool in clang ld.lld; do
+    [ -x "$(kit_tools)/bin/$tool" ] || { skip "the kit's archive: the kit has no $tool for this machine"; return; }
+  done
+  (runner) > /dev/null 2>&1 || { skip "the kit's archive: the kit has no emulator for this machine"; return; }
+  quietly "rt staticlib board did not pass" rt staticlib board
+  with_kit -O2
+  with_kit -O0
+}
+
+header_names
+header_as c c11 cc gcc clang
+header_as c++ c++17 c++ g++ clang++
+against_cargo
+against_kit
+echo "c: $passed passed, 0 failed, $skipped skipped"
