@@ -1,0 +1,121 @@
+//! The library's values as the model's. All of it is done before the clock runs.
+
+use crate::inputs::Turn;
+use arinduleu::flat::{FlatObject, FlatObjects, FlatReading, Raised};
+use arinduleu::lists::{Listing, Objects, Reading, Words};
+use arinduleu::objects::{Decoded, Encoded, Object};
+use arinduleu::ports::{RemainingPower, Row};
+use arinduleu::requests::{Asked, Request};
+use arinduleu::rules::{Profile, Profiled};
+use arinduleu::steps::{InMa10, InMa50, InMv100, InMv20, InMv50};
+use arinduleu::verdicts::Verdict;
+
+pub trait Plain: Clone {
+    type Model: Clone;
+    fn plain(&self) -> Self::Model;
+}
+
+/// Types that both sides share.
+macro_rules! same {
+    ($($type:ty)*) => {$(
+        impl Plain for $type {
+            type Model = $type;
+            fn plain(&self) -> $type {
+                *self
+            }
+        }
+    )*};
+}
+
+same! { bool u8 u16 u32 }
+
+impl<A: Plain, B: Plain> Plain for (A, B) {
+    type Model = (A::Model, B::Model);
+    fn plain(&self) -> Self::Model {
+        (self.0.plain(), self.1.plain())
+    }
+}
+
+impl<A: Plain, B: Plain, C: Plain> Plain for (A, B, C) {
+    type Model = (A::Model, B::Model, C::Model);
+    fn plain(&self) -> Self::Model {
+        (self.0.plain(), self.1.plain(), self.2.plain())
+    }
+}
+
+impl<A: Plain, const N: usize> Plain for [A; N] {
+    type Model = [A::Model; N];
+    fn plain(&self) -> Self::Model {
+        std::array::from_fn(|i| self[i].plain())
+    }
+}
+
+macro_rules! translate {
+    ($($type:ty => $model:ty: |$it:ident| $body:expr;)*) => {$(
+        impl Plain for $type {
+            type Model = $model;
+            fn plain(&self) -> $model {
+                let $it = *self;
+                $body
+            }
+        }
+    )*};
+}
+
+/// The model's turn of a port call.
+#[derive(Clone)]
+pub struct PlainTurn {
+    pub rows: [model::Row; 9],
+    pub count: usize,
+    pub capacity: u16,
+    pub port: u8,
+    pub cable: u8,
+    pub word: u32,
+}
+
+translate! {
+    Verdict => model::Verdict: |v| model::Verdict { number: v.number, place: v.place };
+    Words => model::Words: |l| model::Words { words: l.words, count: l.count };
+    Listing => model::Listing: |l| model::Listing { verdict: l.verdict.plain(), list: l.list.plain() };
+    Profile => model::Profile: |p| model::Profile {
+        max: p.max.0, present: p.present.0, cable: p.cable, rounding: p.rounding, pps: p.pps, flags: p.flags,
+    };
+    Profiled => model::Profiled: |p| model::Profiled { verdict: p.verdict.plain(), profile: p.profile.plain() };
+    Row => model::Row: |r| model::Row { max: r.max.0, pps: r.pps, cable: r.cable, present: r.present.0, held: r.held.0 };
+    RemainingPower => model::RemainingPower: |r| model::RemainingPower { verdict: r.verdict.plain(), power: r.power.0 };
+    Object => model::Object: |o| match o {
+        Object::Fixed { flags, peak, volts, current } => model::Object::Fixed { flags, peak, volts: volts.0, current: current.0 },
+        Object::Battery { max, min, power } => model::Object::Battery { max: max.0, min: min.0, power: power.0 },
+        Object::Variable { max, min, current } => model::Object::Variable { max: max.0, min: min.0, current: current.0 },
+        Object::Pps { limited, max, min, current } => model::Object::Pps { limited, max: max.0, min: min.0, current: current.0 },
+        Object::Avs { peak, low, high } => model::Object::Avs { peak, low: low.0, high: high.0 },
+    };
+    Objects => model::Objects: |l| model::Objects { places: l.places.map(|place| place.object.plain()), count: l.count };
+    Reading => model::Reading: |r| model::Reading { verdict: r.verdict.plain(), list: r.list.plain() };
+    FlatObject => model::FlatObject: |f| model::FlatObject {
+        kind: f.kind, flags: f.flags, peak: f.peak, limited: f.limited, volts: f.volts.0, max: f.max.0, min: f.min.0,
+        power: f.power.0, current: f.current.0, max100: f.max100.0, min100: f.min100.0, current50: f.current50.0,
+        low: f.low.0, high: f.high.0,
+    };
+    FlatObjects => model::FlatObjects: |l| model::FlatObjects { places: l.places.plain(), count: l.count };
+    FlatReading => model::FlatReading: |r| model::FlatReading { verdict: r.verdict.plain(), list: r.list.plain() };
+    Request => model::Request: |r| match r {
+        Request::Fixed { operating, maximum } => model::Request::Fixed { operating: operating.0, maximum: maximum.0 },
+        Request::Battery { operating, maximum } => model::Request::Battery { operating: operating.0, maximum: maximum.0 },
+        Request::Variable { operating, maximum } => model::Request::Variable { operating: operating.0, maximum: maximum.0 },
+        Request::Pps { volts, current } => model::Request::Pps { volts: volts.0, current: current.0 },
+        Request::Avs { volts, current } => model::Request::Avs { volts: volts.0, current: current.0 },
+    };
+    Asked => model::Asked: |a| model::Asked { position: a.position, mismatch: a.mismatch, request: a.request.plain() };
+    Decoded => Option<model::Object>: |d| match d { Decoded::Known(o) => Some(o.plain()), Decoded::NotAllowed => None };
+    Raised => Option<model::Object>: |r| match r { Raised::Known(o) => Some(o.plain()), Raised::Unknown => None };
+    Encoded => Option<u32>: |e| match e { Encoded::Word(w) => Some(w), Encoded::TooWide => None };
+    InMv20 => Option<u16>: |i| match i { InMv20::Exact(f) => Some(f.0), InMv20::Refused => None };
+    InMv50 => Option<u16>: |i| match i { InMv50::Exact(f) => Some(f.0), InMv50::Refused => None };
+    InMv100 => Option<u16>: |i| match i { InMv100::Exact(f) => Some(f.0), InMv100::Refused => None };
+    InMa10 => Option<u16>: |i| match i { InMa10::Exact(f) => Some(f.0), InMa10::Refused => None };
+    InMa50 => Option<u16>: |i| match i { InMa50::Exact(f) => Some(f.0), InMa50::Refused => None };
+    Turn => PlainTurn: |t| PlainTurn {
+        rows: t.rows.plain(), count: t.count, capacity: t.capacity, port: t.port, cable: t.cable, word: t.word,
+    };
+}
