@@ -14,7 +14,7 @@ skip() {
 command -v python3 > /dev/null 2>&1 || skip "there is no python3 on this machine"
 command -v rt > /dev/null 2>&1 || skip "there is no command 'rt' on the PATH"
 with=$(runner)
-kit=$(dirname "$(dirname "$(readlink -f "$(command -v rt)")")")/on/$(uname -m)/toolchain
+kit=$(kit_tools)
 for part in bin/clang bin/ld.lld lib/Scrt1.o lib/libc.so.6 lib/libc_nonshared.a lib/libgcc.a; do
   [ -e "$kit/$part" ] || skip "the kit has no toolchain/$part for this machine"
 done

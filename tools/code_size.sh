@@ -78,7 +78,8 @@ build() {
 keep() {
   local side=$made/$1
   shift
-  cc -nostdlib -static -Wl,--gc-sections -Wl,--unresolved-symbols=ignore-all -Wl,-e,"$1" $(printf -- '-Wl,-u,%s ' "$@") \
+  local wanted=("${@/#/-Wl,-u,}")
+  cc -nostdlib -static -Wl,--gc-sections -Wl,--unresolved-symbols=ignore-all -Wl,-e,"$1" "${wanted[@]}" \
     -o "$side/kept" "$side/own.o" "$side/library.a"
   size -A "$side/kept" | awk '$1 ~ /^\.(text|rodata)/ { sum += $2 } END { printf "%d", sum }'
 }

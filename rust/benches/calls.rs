@@ -9,6 +9,8 @@ mod inputs;
 mod lists;
 #[path = "calls/measure.rs"]
 mod measure;
+#[path = "calls/objects.rs"]
+mod objects;
 #[path = "calls/rows.rs"]
 mod rows;
 #[path = "calls/tables.rs"]

@@ -20,7 +20,7 @@ use Rattle.ports.specs.declared.Change.{Change}
 use Rattle.ports.specs.Rows.{portRow, leftFor, holding}
 use Rattle.ports.specs.RuleLists.{ruleList}
 use Rattle.ports.specs.Requests.{newHeld}
-use Rattle.ports.specs.Refusing.{useRefusals, ownRefusals, noPowerNow, requestRefusals}
+use Rattle.ports.specs.Refusing.{useRefusals, ownRefusals, noPowerNow}
 use Rattle.ports.specs.Deciding.{noChange, changing, requestChange}
 use Rattle.ports.proofs.Judged.{stops-at, moves-on}
 

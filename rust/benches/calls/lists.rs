@@ -1,11 +1,12 @@
-//! Seeded lists, objects and requests. They are made through the wrappers: one more place that calls the library would change what the
-//! compiler inlines, on one side alone.
+//! Seeded lists. They are made through the wrappers: one more place that calls the library would change what the compiler inlines, on one
+//! side alone.
 
 use crate::inputs::{good_profile, many, Dice};
-use crate::wrappers::library::{build, decode, encode, flat_read, flatten, read};
-use arinduleu::flat::{FlatObject, FlatObjects};
+use crate::objects::widened;
+use crate::wrappers::library::{build, encode, flat_read, read};
+use arinduleu::flat::FlatObjects;
 use arinduleu::lists::{Objects, Words, EMPTY_PLACE};
-use arinduleu::objects::{Decoded, Encoded, Object};
+use arinduleu::objects::{Encoded, Object};
 use arinduleu::rules::Profile;
 use arinduleu::steps::{HalfWatts, Ma10, Ma50, Mv100, Mv50, Mw250};
 
@@ -84,7 +85,7 @@ fn mixed(dice: &mut Dice) -> Words {
 }
 
 /// Three of four are built, as firmware has them; the rest have all kinds.
-fn good_list(dice: &mut Dice) -> Words {
+pub fn good_list(dice: &mut Dice) -> Words {
     match dice.one_in(4) {
         true => mixed(dice),
         false => build(good_profile(dice)).list,
@@ -92,7 +93,7 @@ fn good_list(dice: &mut Dice) -> Words {
 }
 
 /// One in eight has a bit turned or a count past seven; most of these are refused.
-fn list(dice: &mut Dice) -> Words {
+pub fn list(dice: &mut Dice) -> Words {
     let mut list = good_list(dice);
     if dice.one_in(8) {
         match dice.one_in(4) {
@@ -105,95 +106,6 @@ fn list(dice: &mut Dice) -> Words {
 
 pub fn lists() -> Vec<Words> {
     many(10, list)
-}
-
-/// The words of lists; one in sixteen is any word at all.
-fn word(dice: &mut Dice) -> u32 {
-    let list = good_list(dice);
-    match dice.one_in(16) {
-        true => dice.any(),
-        false => list.words[dice.below(list.count.into()) as usize],
-    }
-}
-
-pub fn words() -> Vec<u32> {
-    many(11, word)
-}
-
-fn good_object(dice: &mut Dice) -> (Object, u32) {
-    loop {
-        let word = word(dice);
-        if let Decoded::Known(object) = decode(word) {
-            return (object, word);
-        }
-    }
-}
-
-/// A field past its bits, whatever the kind.
-fn widened(object: Object) -> Object {
-    match object {
-        Object::Fixed {
-            flags,
-            volts,
-            current,
-            ..
-        } => Object::Fixed {
-            flags,
-            peak: 4,
-            volts,
-            current,
-        },
-        Object::Battery { max, min, .. } => Object::Battery {
-            max,
-            min,
-            power: Mw250(1024),
-        },
-        Object::Variable { max, min, .. } => Object::Variable {
-            max,
-            min,
-            current: Ma10(1024),
-        },
-        Object::Pps {
-            limited, max, min, ..
-        } => Object::Pps {
-            limited,
-            max,
-            min,
-            current: Ma50(128),
-        },
-        Object::Avs { low, high, .. } => Object::Avs { peak: 4, low, high },
-    }
-}
-
-/// One in sixteen has a field too wide.
-pub fn objects() -> Vec<Object> {
-    many(12, |dice| {
-        let object = good_object(dice).0;
-        if dice.one_in(16) {
-            widened(object)
-        } else {
-            object
-        }
-    })
-}
-
-/// One in sixteen has no kind.
-pub fn flat_objects() -> Vec<FlatObject> {
-    many(13, |dice| {
-        let mut flat = flatten(good_object(dice).0);
-        if dice.one_in(16) {
-            flat.kind = 9;
-        }
-        flat
-    })
-}
-
-/// One in four is the first of its list; one in sixteen has any bits at all.
-pub fn placed_words() -> Vec<(Object, bool, u32)> {
-    many(14, |dice| {
-        let (object, word) = good_object(dice);
-        (object, dice.one_in(4), word)
-    })
 }
 
 /// Good lists taken apart; one in eight has a field too wide or two places exchanged.
@@ -248,61 +160,6 @@ pub fn checks() -> Vec<(Profile, Words)> {
             _ => {}
         }
         (profile, list)
-    })
-}
-
-/// A request that its object grants.
-fn good_request(dice: &mut Dice, object: Object) -> u32 {
-    let figures = |dice: &mut Dice, most: u16| {
-        let operating = u32::from(dice.from(0, most));
-        operating << 10 | u32::from(dice.from(0, most))
-    };
-    let voltage = |volts: u16, current: u16| u32::from(volts) << 9 | u32::from(current);
-    match object {
-        Object::Fixed { current, .. } | Object::Variable { current, .. } => {
-            figures(dice, current.0)
-        }
-        Object::Battery { power, .. } => figures(dice, power.0),
-        Object::Pps {
-            max, min, current, ..
-        } => voltage(dice.from(5 * min.0, 5 * max.0), dice.from(0, current.0)),
-        Object::Avs { low, high, .. } => {
-            let volts = 4 * dice.from(90, if high.0 == 0 { 150 } else { 200 });
-            let limit = if volts <= 600 { low.0 } else { high.0 };
-            voltage(volts, dice.from(0, limit / 5))
-        }
-    }
-}
-
-/// A request to one place of a list; one in four has a bit turned, and most of these are refused.
-pub fn request(dice: &mut Dice, list: Words) -> u32 {
-    let at = dice.below(u32::from(list.count.clamp(1, 7)));
-    let Decoded::Known(object) = decode(list.words[at as usize]) else {
-        return dice.any();
-    };
-    let word = good_request(dice, object) | (at + 1) << 28;
-    match dice.one_in(4) {
-        true => word ^ 1 << dice.below(32),
-        false => word,
-    }
-}
-
-pub fn answers() -> Vec<(Words, u32)> {
-    many(18, |dice| {
-        let list = list(dice);
-        (list, request(dice, list))
-    })
-}
-
-pub fn request_words() -> Vec<u32> {
-    answers().into_iter().map(|(_, word)| word).collect()
-}
-
-pub fn asked() -> Vec<(Object, u32)> {
-    many(19, |dice| {
-        let object = good_object(dice).0;
-        let request = good_request(dice, object);
-        (object, request | 1 << 28)
     })
 }
 

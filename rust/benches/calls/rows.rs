@@ -3,6 +3,7 @@
 use crate::inputs;
 use crate::lists;
 use crate::measure::{call, port_call, Row};
+use crate::objects;
 use crate::tables;
 use crate::wrappers::{library, plain};
 use std::hint::black_box;
@@ -45,7 +46,7 @@ pub fn all() -> Vec<Row> {
 
 fn of_the_loop() -> Vec<Row> {
     vec![
-        row!("(loop and an empty call)", lists::words(), nothing as fn(u32) -> _ | fn(u32) -> _, |w| (*w), |w| (*w)),
+        row!("(loop and an empty call)", objects::words(), nothing as fn(u32) -> _ | fn(u32) -> _, |w| (*w), |w| (*w)),
         port_row!("(the same with rows copied)", tables::any(), no_call as fn(&mut _, _) -> _ | fn(&mut _, _) -> _,
             |rows, t| (rows, t.capacity)),
     ]
@@ -59,7 +60,7 @@ fn of_lists() -> Vec<Row> {
         row!("arin_shape", lists::lists(), shape as fn(_) -> _ | fn(&_) -> _, |l| (*l), |l| (l)),
         row!("arin_read", lists::lists(), flat_read as fn(_) -> _ | fn(&_) -> _, |l| (*l), |l| (l)),
         row!("arin_write", lists::flat_lists(), flat_write as fn(_) -> _ | fn(&_) -> _, |l| (*l), |l| (l)),
-        row!("arin_answer", lists::answers(), answer as fn(_, _) -> _ | fn(&_, _) -> _, |(l, w)| (*l, *w), |(l, w)| (l, *w)),
+        row!("arin_answer", objects::answers(), answer as fn(_, _) -> _ | fn(&_, _) -> _, |(l, w)| (*l, *w), |(l, w)| (l, *w)),
         row!("lists::read", lists::lists(), read as fn(_) -> _ | fn(&_) -> _, |l| (*l), |l| (l)),
         row!("lists::write", lists::object_lists(), write as fn(_) -> _ | fn(&_) -> _, |l| (*l), |l| (l)),
     ]
@@ -82,14 +83,14 @@ fn of_ports() -> Vec<Row> {
 
 fn of_objects() -> Vec<Row> {
     vec![
-        row!("objects::decode", lists::words(), decode as fn(u32) -> _ | fn(u32) -> _, |w| (*w), |w| (*w)),
-        row!("objects::encode", lists::objects(), encode as fn(_) -> _ | fn(&_) -> _, |o| (*o), |o| (o)),
-        row!("objects::reserved_bit_set", lists::placed_words(), reserved_bit_set as fn(_, _, _) -> _ | fn(&_, _, _) -> _,
+        row!("objects::decode", objects::words(), decode as fn(u32) -> _ | fn(u32) -> _, |w| (*w), |w| (*w)),
+        row!("objects::encode", objects::objects(), encode as fn(_) -> _ | fn(&_) -> _, |o| (*o), |o| (o)),
+        row!("objects::reserved_bit_set", objects::placed_words(), reserved_bit_set as fn(_, _, _) -> _ | fn(&_, _, _) -> _,
             |(o, first, w)| (*o, *first, *w), |(o, first, w)| (o, *first, *w)),
-        row!("flat::flatten", lists::objects(), flatten as fn(_) -> _ | fn(&_) -> _, |o| (*o), |o| (o)),
-        row!("flat::raise", lists::flat_objects(), raise as fn(_) -> _ | fn(&_) -> _, |o| (*o), |o| (o)),
-        row!("requests::position", lists::request_words(), position as fn(u32) -> _ | fn(u32) -> _, |w| (*w), |w| (*w)),
-        row!("requests::take_apart", lists::asked(), take_apart as fn(_, _) -> _ | fn(&_, _) -> _, |(o, w)| (*o, *w), |(o, w)| (o, *w)),
+        row!("flat::flatten", objects::objects(), flatten as fn(_) -> _ | fn(&_) -> _, |o| (*o), |o| (o)),
+        row!("flat::raise", objects::flat_objects(), raise as fn(_) -> _ | fn(&_) -> _, |o| (*o), |o| (o)),
+        row!("requests::position", objects::request_words(), position as fn(u32) -> _ | fn(u32) -> _, |w| (*w), |w| (*w)),
+        row!("requests::take_apart", objects::asked(), take_apart as fn(_, _) -> _ | fn(&_, _) -> _, |(o, w)| (*o, *w), |(o, w)| (o, *w)),
     ]
 }
 

@@ -1,7 +1,8 @@
 //! Seeded rows of ports, as a board has them after some calls.
 
 use crate::inputs::{cable, many, Dice, Turn};
-use crate::lists::{request, row_list};
+use crate::lists::row_list;
+use crate::objects::request;
 use crate::wrappers::library::{self, advertise, attach, detach, set_up};
 use arinduleu::ports::Row;
 use arinduleu::steps::HalfWatts;

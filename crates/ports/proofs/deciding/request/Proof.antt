@@ -4,7 +4,7 @@ use mathlib.Core.Path.{_≡_, sym, ap, _∙_, subst}
 use Prim.Native.Nat.{ℕ, _-_, _≤_, _<_}
 use native.Mathlib.Omega.{arith}
 use Rattle.verdicts.specs.declared.Verdict.{Verdict}
-use Rattle.verdicts.specs.Refusals.{success, verdictOf}
+use Rattle.verdicts.specs.Refusals.{verdictOf}
 use Rattle.verdicts.proofs.First.{NoneApply}
 use Rattle.lists.specs.declared.Listing.{Listing}
 use Rattle.lists.specs.declared.Words.{Words}

@@ -7,9 +7,8 @@ use Prim.Native.Nat.{ℕ, _+_, _-_, _*_, _≤_}
 use native.Mathlib.Omega.{arith}
 use borrow.Author.Needs.{needs}
 use Rattle.verdicts.specs.declared.Verdict.{Verdict}
-use Rattle.verdicts.specs.Refusals.{eachPlace, success}
+use Rattle.verdicts.specs.Refusals.{eachPlace}
 use Rattle.verdicts.proofs.First.{NoneApply, none-yet, none-more, all-missed, decided, hit}
-use Rattle.ports.specs.declared.soundness.Standing.{Standing}
 use Rattle.ports.specs.Rows.{rowOf, heldAt, together}
 use Rattle.ports.specs.Soundness.{soundRow}
 use Rattle.ports.specs.Refusing.{faultRows}

@@ -1,6 +1,6 @@
 -- `requests::answer` meets its contract: the shape, then the answer that leaves it out.
 -- Assumes nothing.
-use mathlib.Core.Path.{_≡_, ap, sym, _∙_}
+use mathlib.Core.Path.{ap, sym, _∙_}
 use Rattle.verdicts.specs.declared.Verdict.{Verdict}
 use Rattle.requests.proofs.Answers.{misshapen, same-answer}
 use borrow.Author.Needs.{needs}
