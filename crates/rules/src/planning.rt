@@ -194,7 +194,7 @@ fn plan_in(range: Range) -> Plan
     }
 }
 
-pub fn plan(max: u16) -> Plan
+pub(crate) fn plan(max: u16) -> Plan
     requires { ⌜ 1 ≤ max ⌝ }
     ensures { λ r. ⌜ r ≡ planOf max ⌝ }
 {

@@ -1,0 +1,161 @@
+//! Each refusal number. Number 9 belongs to the listing program, which is no part of this package.
+
+use super::*;
+
+#[test]
+fn profile_refusals() {
+    let refused = |number, profile: Profile| {
+        assert_eq!(build(&profile).verdict, said(number, 0));
+        if number != 6 {
+            assert_eq!(check(&profile, &l()), said(number, 0));
+        }
+    };
+    refused(1, profile(0, 0, 0, 2, 0));
+    refused(1, profile(201, 1, 3, 0, 0));
+    refused(2, profile(30, 31, 0, 0, 0));
+    refused(2, profile(30, 0, 3, 0, 0));
+    refused(3, profile(30, 30, 4, 2, 0));
+    refused(4, profile(30, 30, 3, 2, 0));
+    refused(4, profile(30, 30, 3, 0, 2));
+    refused(6, profile(30, 29, 3, 0, 1));
+    let flags = Profile { flags: 64, ..profile(30, 29, 3, 0, 1) };
+    refused(5, flags);
+    assert_eq!(default_profile(201).verdict, said(1, 0));
+    assert_eq!(default_profile(0).profile, Profile::default());
+}
+
+#[test]
+fn shape_refusals() {
+    let five = fixed(5, 300);
+    let (nine, fifteen, twenty) = (fixed(9, 300), fixed(15, 300), fixed(20, 300));
+    let refused = |number, place, words: &[u32]| {
+        assert_eq!(shape(&list_of(words)), said(number, place));
+    };
+    assert_eq!(shape(&Words::default()), said(10, 0));
+    let eight = Words { count: 8, words: [five; 7] };
+    assert_eq!(shape(&eight), said(10, 0));
+    refused(11, 1, &[0xD000_0000]);
+    refused(11, 1, &[nine | 1 << 22]);
+    refused(12, 2, &[five, 0xD000_0000]);
+    refused(12, 3, &[five, nine, 0xF000_0000]);
+    refused(13, 1, &[five | 1 << 22]);
+    refused(13, 2, &[five, nine | 1 << 29]);
+    refused(13, 2, &[five, pps(110, 50, 60) | 1 << 7]);
+    refused(13, 2, &[five, avs(0, 0) | 1 << 20]);
+    refused(14, 2, &[five, five]);
+    refused(14, 3, &[five, battery(400, 100, 1), nine]);
+    refused(14, 3, &[five, battery(400, 100, 1), battery(400, 99, 1)]);
+    refused(14, 3, &[five, variable(400, 100, 1), battery(400, 99, 1)]);
+    refused(14, 4, &[five, fifteen, avs(300, 0), avs(300, 0)]);
+    refused(14, 3, &[five, pps(110, 50, 60), pps(109, 50, 60)]);
+    refused(15, 2, &[five, fixed(21, 1023)]);
+    refused(15, 2, &[five, battery(421, 100, 1)]);
+    refused(15, 2, &[five, variable(100, 101, 1)]);
+    refused(15, 2, &[five, pps(211, 50, 60)]);
+    refused(16, 2, &[five, fixed(20, 501)]);
+    refused(16, 2, &[five, battery(400, 100, 401)]);
+    refused(16, 2, &[five, variable(420, 100, 477)]);
+    refused(17, 2, &[five, avs(0, 0)]);
+    refused(17, 3, &[five, fifteen, avs(299, 0), pps(110, 50, 60)]);
+    refused(17, 4, &[five, fifteen, twenty, avs(300, 299)]);
+    refused(0, 0, &[five, fifteen, twenty, avs(300, 0)]);
+    refused(16, 4, &[five, fifteen, avs(299, 0), fixed(20, 501)]);
+}
+
+#[test]
+fn rule_refusals() {
+    let (five, nine) = (fixed(5, 300), fixed(9, 300));
+    let checked = |max, present, cable, words: &[u32]| {
+        check(&profile(max, present, cable, 0, 0), &list_of(words))
+    };
+    assert_eq!(checked(30, 30, 3, &[five, nine]), said(18, 0));
+    assert_eq!(checked(31, 31, 3, &[five]), said(18, 0));
+    assert_eq!(checked(30, 30, 3, &[five, pps(110, 50, 60)]), said(18, 0));
+    assert_eq!(checked(30, 30, 3, &[five, battery(400, 100, 1)]), said(18, 0));
+    let second_zero = [five, nine, fixed(15, 300), fixed(20, 227), avs(300, 0)];
+    assert_eq!(checked(91, 91, 3, &second_zero), said(18, 0));
+
+    let three = [five, nine, fixed(15, 240), avs(240, 0)];
+    let with = |progs: [u32; 2]| [three[0], three[1], three[2], three[3], progs[0], progs[1]];
+    let both = |nine, fifteen| with([pps(110, 50, nine), pps(160, 50, fifteen)]);
+    assert_eq!(checked(72, 72, 3, &three), said(0, 0));
+    assert_eq!(checked(72, 72, 3, &both(60, 48)), said(0, 0));
+    assert_eq!(checked(72, 72, 5, &both(80, 48)), said(0, 0));
+    assert_eq!(checked(72, 72, 5, &both(81, 48)), said(19, 5));
+    assert_eq!(checked(72, 72, 3, &both(61, 48)), said(19, 5));
+    assert_eq!(checked(72, 72, 5, &both(60, 47)), said(19, 6));
+    assert_eq!(checked(72, 71, 5, &both(60, 48)), said(18, 0));
+    assert_eq!(checked(72, 72, 5, &both(81, 48)[..5]), said(18, 0));
+
+    assert_eq!(checked(30, 30, 5, &[fixed(5, 301)]), said(19, 1));
+    assert_eq!(checked(31, 31, 5, &[fixed(5, 310), fixed(9, 173)]), said(0, 0));
+    assert_eq!(checked(31, 31, 5, &[fixed(5, 311), fixed(9, 171)]), said(19, 1));
+    assert_eq!(checked(31, 31, 3, &[fixed(5, 301), fixed(9, 172)]), said(19, 1));
+    let mut list = built(profile(200, 200, 3, 0, 1));
+    assert_eq!(list.words[5], pps(210, 50, 60));
+    list.words[0] |= 0x7F << 23 | 3 << 20;
+    list.words[5] &= !(1 << 27);
+    assert_eq!(check(&profile(200, 200, 3, 1, 0), &list), said(0, 0));
+}
+
+#[test]
+fn request_refusals() {
+    let (volts, figures) = (list_of(&[fixed(5, 300), pps(110, 50, 60)]), l());
+    assert_eq!(answer(&list_of(&[0]), 0), said(11, 1));
+    assert_eq!(answer(&figures, ask_figures(0, 1, 1)), said(20, 0));
+    for bit in [27, 21, 20] {
+        assert_eq!(answer(&figures, ask_figures(1, 301, 1) | 1 << bit), said(21, 0));
+    }
+    for bit in [27, 21, 8, 7] {
+        assert_eq!(answer(&volts, ask_volts(2, 0, 1) | 1 << bit), said(21, 0));
+    }
+    assert_eq!(answer(&figures, ask_figures(1, 300, 300) | 0xF << 22), said(0, 0));
+    assert_eq!(answer(&figures, ask_figures(1, 301, 301)), said(24, 0));
+    assert_eq!(answer(&figures, ask_figures(1, 300, 301)), said(25, 0));
+    assert_eq!(answer(&figures, ask_figures(1, 300, 301) | 1 << 26), said(0, 0));
+    assert_eq!(answer(&volts, ask_volts(2, 249, 60)), said(22, 0));
+    assert_eq!(answer(&volts, ask_volts(2, 250, 60)), said(0, 0));
+    assert_eq!(answer(&volts, ask_volts(2, 550, 61)), said(24, 0));
+    assert_eq!(answer(&volts, ask_volts(2, 551, 60)), said(22, 0));
+    assert_eq!(answer(&by_max(80), ask_volts(4, 604, 1)), said(22, 0));
+    assert_eq!(answer(&figures, ask_volts(5, 804, 1)), said(22, 0));
+    let power = list_of(&[fixed(5, 300), battery(400, 100, 200)]);
+    assert_eq!(answer(&power, ask_figures(2, 200, 200)), said(0, 0));
+    assert_eq!(answer(&power, ask_figures(2, 201, 200)), said(24, 0));
+
+    let asked = take_apart(&decode(figures.words[4]).unwrap(), ask_volts(15, 602, 66) | 1 << 26);
+    let request = Request::Avs { volts: 602, current: 66 };
+    assert_eq!((asked.position, asked.mismatch, asked.request), (15, true, request));
+}
+
+#[test]
+fn sharing_refusals() {
+    let row = Row { max: 100, held: 15, ..Row::default() };
+    let mut none: [Row; 0] = [];
+    assert_eq!(set_up(&mut none, 100), said(30, 0));
+    assert_eq!(remaining(&[row; 9], 200).verdict, said(30, 0));
+    let mut rows = [row; 2];
+    assert_eq!(set_up(&mut rows, 29), said(32, 0));
+    assert_eq!(attach(&mut rows, 1601, 1, 3).verdict, said(32, 0));
+    rows[1].max = 14;
+    assert_eq!(set_up(&mut rows, 200), said(31, 2));
+    rows[0].pps = 2;
+    assert_eq!(set_up(&mut rows, 200), said(4, 1));
+    assert_eq!(attach(&mut rows, 200, 3, 4).verdict, said(37, 1));
+
+    let mut rows = [row; 2];
+    assert_eq!(attach(&mut rows, 200, 0, 4).verdict, said(33, 0));
+    assert_eq!(detach(&mut rows, 200, 3), said(33, 0));
+    assert_eq!(attach(&mut rows, 200, 1, 4).verdict, said(3, 0));
+    assert_eq!(attach(&mut rows, 200, 1, 3).verdict, said(0, 0));
+    assert_eq!(attach(&mut rows, 200, 1, 3).verdict, said(34, 1));
+    assert_eq!(advertise(&mut rows, 200, 2).verdict, said(35, 2));
+    assert_eq!(request(&mut rows, 200, 2, 0), said(35, 2));
+    assert_eq!(detach(&mut rows, 200, 2), said(35, 2));
+    assert_eq!(request(&mut rows, 200, 1, 0), said(20, 0));
+    rows[0].held = 100;
+    assert_eq!(remaining(&rows, 114).verdict, said(37, 0));
+    rows[1].held = 16;
+    assert_eq!(remaining(&rows, 114).verdict, said(37, 2));
+    assert_eq!(remaining(&rows, 114).power, 0);
+}
