@@ -14,12 +14,13 @@ use Rattle.objects.specs.declared.Object.{Object}
 use Rattle.objects.specs.declared.Decoded.{Decoded}
 use Rattle.objects.specs.declared.Decoded.the-variants.{Known, NotAllowed}
 use Rattle.objects.specs.Decode.{decodeOf, decodedNumber, reservedSet}
+use Rattle.lists.specs.declared.object_rules.Standing.{Standing}
 use Rattle.lists.specs.declared.shape_check.Judged.{Judged}
 use Rattle.lists.specs.declared.shape_check.Judged.the-variants.{Fine, Refused}
 use Rattle.lists.specs.ObjectRules.{outOfBounds, over100W, mayFollow}
 use Rattle.lists.specs.Shape.{outOfOrder, wordRefusals, wordRows}
 use Rattle.lists.specs.Reading.{objectOf}
-use Rattle.lists.specs.Judging.{Ranked, judgedOf}
+use Rattle.lists.specs.Judging.{judgedOf, standingOf}
 
 module _ (first : Bool) (place : ℕ) (before : Object) (w : ℕ) where
   pub not-known : decodeOf w ≡ NotAllowed → judgedOf first place before w ≡ Refused (verdict 12 place)
@@ -83,10 +84,10 @@ rows-at ws zero before h = refl
 rows-at ws (suc k) before h =
     ap (λ (d : Decoded). wordRefusals (eqb (suc k) 0) (suc k + 1) d (getD ws (suc k) 0)) (sym (h (omega arith)))
 
--- the object before a place, of this rank and this key; before the first place any object will do
-pub record Before (ws : List ℕ) (k earlier low : ℕ) : Type 0 where
+-- the object before a place, which stands so; before the first place any object will do
+pub record Before (ws : List ℕ) (k : ℕ) (s : Standing) : Type 0 where
   pub object : Object
-  pub ranked : Ranked earlier low object
+  pub stands : standingOf object ≡ s
   pub decoded : 0 < k → decodeOf (getD ws (k - 1) 0) ≡ Known object
 
 module _ (ws : List ℕ) (k : ℕ) (before : Object) (h : 0 < k → decodeOf (getD ws (k - 1) 0) ≡ Known before) where

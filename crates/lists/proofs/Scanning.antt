@@ -20,10 +20,12 @@ use Rattle.objects.specs.declared.Decoded.{Decoded}
 use Rattle.objects.specs.declared.Decoded.the-variants.{Known, NotAllowed}
 use Rattle.objects.specs.Asking.{ofObject, ofAvs}
 use Rattle.objects.specs.Decode.{decodeOf}
+use Rattle.lists.specs.declared.object_rules.Standing.{Standing}
 use Rattle.lists.specs.ObjectRules.{rankOf, keyOf, keysMayFollow, mayFollow}
 use Rattle.lists.specs.Shape.{outOfOrder, wordRows, avsMatches, avsDiffers, avsRows}
 use Rattle.lists.specs.Reading.{objectOf}
 use Rattle.lists.specs.Scanning.{OnlyAvs}
+use Rattle.lists.proofs.Orders.{rank-in}
 use Rattle.lists.proofs.Judging.{Before}
 
 -- ---- one object after another
@@ -59,7 +61,7 @@ pub record Alone (ws : List ℕ) (i earlier place : ℕ) : Type 0 where
 pub none-seen : (ws : List ℕ) → Alone ws 0 0 0
 none-seen ws = record { only = record { within = omega arith; others = λ k h f r. omega arith }; lower = λ h. refl }
 
-module _ (ws : List ℕ) (i earlier low place : ℕ) (a : Alone ws i earlier place) (b : Before ws i earlier low)
+module _ (ws : List ℕ) (i place : ℕ) (s : Standing) (a : Alone ws i (s .rank) place) (b : Before ws i s)
     (x : NoneApply (wordRows ws i)) (o : Object) (d : decodeOf (getD ws i 0) ≡ Known o) where
   -- past the first word, the ranks do not fall
   follows : 0 < i → mayFollow (b .object) o ≡ true
@@ -69,7 +71,7 @@ module _ (ws : List ℕ) (i earlier low place : ℕ) (a : Alone ws i earlier pla
       ∙ ap₂ (outOfOrder false) (b .decoded h) d)
       ∙ x .1 .1 .1 .1 .0)
 
-  none-before : (0 < i → earlier < 3) → place ≡ 0
+  none-before : (0 < i → s .rank < 3) → place ≡ 0
   none-before f = ⊎-elim (λ e. omega (arith, a .only .within, e)) (λ l. a .lower (f l)) (let h : 0 ≤ i = omega arith in eq-or-lt-of-le h)
 
   pub one-more : Alone ws (i + 1) (rankOf o) (cond (eqb (rankOf o) 3) (i + 1) place)
@@ -77,7 +79,7 @@ module _ (ws : List ℕ) (i earlier low place : ℕ) (a : Alone ws i earlier pla
     go : (t : Bool) → eqb (rankOf o) 3 ≡ t → Alone ws (i + 1) (rankOf o) (cond t (i + 1) place)
     go true q =
         let r = eqb-true (rankOf o) 3 q in
-        let z = none-before (λ h. omega (arith, b .ranked .rank, rises (b .object) o (follows h) .1 r)) in record {
+        let z = none-before (λ h. omega (arith, rank-in (b .object) (b .stands), rises (b .object) o (follows h) .1 r)) in record {
           only = record { within = omega arith; others = λ k h f. a .only .others k (omega arith) (λ e. omega (arith, e, z)) };
           lower = λ h. absurd (omega (arith, r, h));
         }
@@ -88,7 +90,7 @@ module _ (ws : List ℕ) (i earlier low place : ℕ) (a : Alone ws i earlier pla
             (λ e. eqb-false (rankOf o) 3 q (sym (ap (λ (y : Decoded). rankOf (objectOf y)) (ap (λ (j : ℕ). decodeOf (getD ws j 0)) e ∙ d)) ∙ r))
             (λ l. a .only .others k l f r) (let l : k ≤ i = omega arith in eq-or-lt-of-le l);
       };
-      lower = λ h. none-before (λ l. omega (arith, h, b .ranked .rank, rises (b .object) o (follows l) .0));
+      lower = λ h. none-before (λ l. omega (arith, h, rank-in (b .object) (b .stands), rises (b .object) o (follows l) .0));
     }
 
 -- a word that is refused is not passed

@@ -1,8 +1,10 @@
 // What the shape of a list asks of an object by itself, and of an object and the one before it.
 ghost use mathlib.Core.Path.{_≡_};
-ghost use Rattle.lists.specs.ObjectRules.{outOfBounds, over100W, rankOf, keyOf};
-ghost use Rattle.lists.specs.Judging.{Follows};
+ghost use Rattle.lists.specs.ObjectRules.{outOfBounds, over100W};
+ghost use Rattle.lists.specs.Judging.{standingOf, Follows};
 use objects::Object;
+use steps::Mv50;
+use steps::Mv100;
 
 // 15: a voltage past its bound. In 50 mV steps 20 V is 400 and 21 V is 420; in 100 mV steps 21 V is 210.
 pub fn out_of_bounds(o: Object) -> bool
@@ -45,49 +47,63 @@ pub fn over_100_w(o: Object) -> bool
     }
 }
 
-// The order of the kinds.
-pub fn rank(o: Object) -> u8
-    ensures { λ r. ⌜ r ≡ rankOf o ⌝ }
+// How an object stands in the order: the rank of its kind, and the voltage that orders it among its kind, in that
+// kind's own step. The voltage of the other step is zero.
+pub struct Standing {
+    pub rank: u8,
+    pub volts: Mv50,
+    pub top: Mv100,
+}
+
+// The order of the kinds; among fixed by the voltage, among battery and variable by min, among PPS by max.
+pub fn standing_of(o: Object) -> Standing
+    ensures { λ r. ⌜ r ≡ standingOf o ⌝ }
 {
     match o {
-        Object::Fixed { .. } => 0,
-        Object::Battery { .. } => 1,
-        Object::Variable { .. } => 2,
-        Object::Avs { .. } => 3,
-        Object::Pps { .. } => 4,
+        Object::Fixed { volts, .. } => Standing {
+            rank: 0,
+            volts,
+            top: Mv100(0),
+        },
+        Object::Battery { min, .. } => Standing {
+            rank: 1,
+            volts: min,
+            top: Mv100(0),
+        },
+        Object::Variable { min, .. } => Standing {
+            rank: 2,
+            volts: min,
+            top: Mv100(0),
+        },
+        Object::Avs { .. } => Standing {
+            rank: 3,
+            volts: Mv50(0),
+            top: Mv100(0),
+        },
+        Object::Pps { max, .. } => Standing {
+            rank: 4,
+            volts: Mv50(0),
+            top: max,
+        },
     }
 }
 
-// The voltage that orders objects of one kind, in the kind's own step.
-pub fn key(o: Object) -> u16
-    ensures { λ r. ⌜ r ≡ keyOf o ⌝ }
+// Whether an object may stand right after one that stands so (14). Voltages are compared within a kind, so in one step.
+pub fn may_follow(before: Standing, o: Object) -> bool
+    ensures { λ r. ⌜ Follows before o r ⌝ }
 {
-    match o {
-        Object::Fixed { volts, .. } => volts.0,
-        Object::Battery { min, .. } => min.0,
-        Object::Variable { min, .. } => min.0,
-        Object::Avs { .. } => 0,
-        Object::Pps { max, .. } => max.0,
-    }
-}
-
-// Whether an object may stand right after one of this rank and key (14).
-pub fn may_follow(earlier: u8, low: u16, o: Object) -> bool
-    ensures { λ r. ⌜ Follows earlier low o r ⌝ }
-{
-    let later = rank(o);
-    if earlier < later {
+    let after = standing_of(o);
+    if before.rank < after.rank {
         return true;
     }
-    if later < earlier {
+    if after.rank < before.rank {
         return false;
     }
-    let high = key(o);
     match o {
-        Object::Fixed { .. } => low < high,
-        Object::Battery { .. } => low <= high,
-        Object::Variable { .. } => low <= high,
+        Object::Fixed { volts, .. } => before.volts.0 < volts.0,
+        Object::Battery { min, .. } => before.volts.0 <= min.0,
+        Object::Variable { min, .. } => before.volts.0 <= min.0,
         Object::Avs { .. } => false,
-        Object::Pps { .. } => low <= high,
+        Object::Pps { max, .. } => before.top.0 <= max.0,
     }
 }

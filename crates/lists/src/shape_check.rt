@@ -12,15 +12,16 @@ ghost use Rattle.lists.specs.Judging.{Judges};
 ghost use Rattle.lists.specs.Scanning.{OnlyAvs, Scans};
 ghost use Rattle.lists.specs.Promises.{Shapes};
 use crate::Words;
-use crate::object_rules::key;
+use crate::object_rules::Standing;
 use crate::object_rules::may_follow;
 use crate::object_rules::out_of_bounds;
 use crate::object_rules::over_100_w;
-use crate::object_rules::rank;
+use crate::object_rules::standing_of;
 use objects::Decoded;
 use objects::Object;
 use steps::Ma10;
 use steps::Mv50;
+use steps::Mv100;
 use verdicts::Verdict;
 
 // What the words say: the first refusal, and the place of the AVS word, 0 for none.
@@ -45,9 +46,9 @@ fn is_fixed_5_v(w: u32) -> bool
     (w >> 10) & 0x3FF == 100
 }
 
-// One word, with the rank and the key of the object before it.
-fn judge(first: bool, place: u8, earlier: u8, low: u16, w: u32) -> Judged
-    ensures { λ r. ⌜ Judges first place earlier low w r ⌝ }
+// One word, with how the object before it stands.
+fn judge(first: bool, place: u8, before: Standing, w: u32) -> Judged
+    ensures { λ r. ⌜ Judges first place before w r ⌝ }
 {
     let d = objects::decode(w);
     let Decoded::Known(object) = d else {
@@ -77,7 +78,7 @@ fn judge(first: bool, place: u8, earlier: u8, low: u16, w: u32) -> Judged
     if first {
         return Judged::Fine(object);
     }
-    if may_follow(earlier, low, object) {
+    if may_follow(before, object) {
         return Judged::Fine(object);
     }
     Judged::Refused(Verdict {
@@ -102,25 +103,28 @@ fn judge_words(list: Words) -> Scan
     ensures { λ r. ⌜ Scans (list .words) (list .count) r ⌝ }
 {
     let count = list.count;
-    let mut earlier: u8 = 0;
-    let mut low: u16 = 0;
+    // The order says nothing of the first word, so before it any standing will do.
+    let mut before = Standing {
+        rank: 0,
+        volts: Mv50(0),
+        top: Mv100(0),
+    };
     let mut avs: u8 = 0;
     let mut i: u8 = 0;
     while i < count {
         let at = i as usize;
         let w = list.words[at];
-        let j = judge(i == 0, i + 1, earlier, low, w);
+        let j = judge(i == 0, i + 1, before, w);
         match j {
             Judged::Fine(object) => {
-                earlier = rank(object);
-                low = key(object);
+                before = standing_of(object);
             }
             Judged::Refused(verdict) => {
                 return Scan { verdict, avs };
             }
         }
         i += 1;
-        avs = avs_place(avs, earlier, i);
+        avs = avs_place(avs, before.rank, i);
     }
     Scan {
         verdict: Verdict {

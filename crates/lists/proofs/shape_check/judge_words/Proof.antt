@@ -13,26 +13,27 @@ use Rattle.objects.specs.Decode.{decodeOf}
 use Rattle.lists.specs.Shape.{wordRows}
 use Rattle.lists.specs.Scanning.{OnlyAvs}
 use Rattle.lists.specs.Reading.{zeroObject}
+use Rattle.lists.proofs.Orders.{rank-in}
 use Rattle.lists.proofs.Judging.{Before, refused-word, fine-word, fine-object}
 use Rattle.lists.proofs.Scanning.{Alone, none-seen, one-more, refused-number}
 use Rattle.lists.proofs.shape_check.judge_words.Statement.{statement}
 use Rattle.lists.proofs.shape_check.judge_words.Tie as tie
 
 abbrev Inv-loop : tie.InvT-loop
-Inv-loop list count earlier₀ low₀ avs₀ i₀ earlier low avs i =
+Inv-loop list count before₀ avs₀ i₀ before avs i =
     (i ≤ count)
     × (NoneApply (eachPlace (wordRows (list .words)) i))
-    × (Before (list .words) i earlier low)
-    × (Alone (list .words) i earlier avs)
+    × (Before (list .words) i before)
+    × (Alone (list .words) i (before .rank) avs)
 
 abbrev μ-loop : tie.MeasureT-loop
-μ-loop list count earlier₀ low₀ avs₀ i₀ earlier low avs i = count - i
+μ-loop list count before₀ avs₀ i₀ before avs i = count - i
 
 loop-holds : tie.Need-loop-holds Inv-loop μ-loop
 loop-holds c = (
   search needs,
   none-yet _,
-  record { object = zeroObject; ranked = record { rank = refl; key = refl }; decoded = λ h. absurd (omega arith) },
+  record { object = zeroObject; stands = refl; decoded = λ h. absurd (omega arith) },
   none-seen _,
 )
 
@@ -65,15 +66,12 @@ returns c =
     let h = c .before .before .before .before .before .loop-test .taken in
     let v = c .before .j2 .given .0 .0 in
     let r = refused-word (l .words) (at .i) (b .object) (b .decoded) v
-    (sym (c .before .before .before .judge .ensures (b .object) (b .ranked)) ∙ c .before .j2 .given .1) in
+    (sym (c .before .before .before .judge .ensures (b .object) (b .stands)) ∙ c .before .j2 .given .1) in
     let e = sym (decided (wordRows (l .words)) verdict (at .i) (l .count) v h (at .inv .1) r success) in
     (e, λ z. absurd (refused-number (l .words) (l .count) (at .i) v h e r z))
 
-rank-requires : tie.Need-rank-requires Inv-loop μ-loop
-rank-requires c κs = search needs
-
-key-requires : tie.Need-key-requires Inv-loop μ-loop
-key-requires c κs = search needs
+standing-of-requires : tie.Need-standing-of-requires Inv-loop μ-loop
+standing-of-requires c κs = search needs
 
 add-i : tie.Need-add-i Inv-loop μ-loop
 add-i c = search needs
@@ -86,25 +84,26 @@ loop-less c = search needs
 
 loop-again : tie.Need-loop-again Inv-loop μ-loop
 loop-again c =
-    let l = c .before .before .before .before .before .before .before .before .before .before .args .t1 in
-    let at = c .before .before .before .before .before .before .before .before .before .loop in
+    let l = c .before .before .before .before .before .before .before .before .before .args .t1 in
+    let at = c .before .before .before .before .before .before .before .before .loop in
     let b = at .inv .2 in
-    let j = c .before .before .before .before .j .given in
-    let e = sym (c .before .before .before .before .before .before .judge .ensures (b .object) (b .ranked)) ∙ j .1 in
+    let j = c .before .before .before .j .given in
+    let e = sym (c .before .before .before .before .before .judge .ensures (b .object) (b .stands)) ∙ j .1 in
     let z : at .i + 1 - 1 ≡ at .i = omega arith in
     let clear = fine-word (l .words) (at .i) (b .object) (b .decoded) _ e in
     let d = fine-object _ _ _ _ _ e in
-    let r = c .before .before .rank in (
+    let s = c .before .standing-of in
+    let r = rank-in (j .0 .0) (sym (s .ensures)) in (
       omega arith,
       none-more (wordRows (l .words)) (at .i) (at .inv .1) clear,
       record {
         object = j .0 .0;
-        ranked = record { rank = sym (r .ensures); key = sym (c .before .key .ensures) };
+        stands = sym (s .ensures);
         decoded = λ h. ap (λ (k : ℕ). decodeOf (getD (l .words) k 0)) z ∙ d;
       },
-      subst (λ (p : ℕ). Alone (l .words) (at .i + 1) (r .result) p) (sym (c .avs-place .ensures))
-          (subst (λ (n : ℕ). Alone (l .words) (at .i + 1) n (cond (eqb n 3) (at .i + 1) (at .avs))) (sym (r .ensures))
-          (one-more (l .words) (at .i) (at .earlier) (at .low) (at .avs) (at .inv .3) b clear (j .0 .0) d)),
+      subst (λ (p : ℕ). Alone (l .words) (at .i + 1) (s .result .rank) p) (sym (c .avs-place .ensures))
+          (subst (λ (n : ℕ). Alone (l .words) (at .i + 1) n (cond (eqb n 3) (at .i + 1) (at .avs))) r
+          (one-more (l .words) (at .i) (at .avs) (at .before) (at .inv .3) b clear (j .0 .0) d)),
     )
 
 returns-2 : tie.Need-returns-2 Inv-loop μ-loop
@@ -129,8 +128,7 @@ judge-words-spec =
     add-judge
     judge-requires
     enum-known-j
-    rank-requires
-    key-requires
+    standing-of-requires
     enum-known-j-2
     returns
     add-i
