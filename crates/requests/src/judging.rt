@@ -1,7 +1,10 @@
 // The limits of each kind. Figures are compared in the cheapest step; the definitions speak of mV and mA.
 ghost use mathlib.Core.Path.{_≡_};
-ghost use Rattle.verdicts.specs.Refusals.{verdict};
+ghost use mathlib.Core.Bool.{not, _&&_};
+ghost use mathlib.Core.List.{[], _∷_};
+ghost use Rattle.verdicts.specs.Refusals.{refusal, verdict, verdictOf};
 ghost use Rattle.steps.specs.Units.{mv25, ma10};
+ghost use Rattle.requests.specs.Taking.{mismatchOf};
 ghost use Rattle.requests.specs.Limits.{besideFigures, besideVoltage, bitSet, reservedInRequest, avsTop, avsLimit};
 ghost use Rattle.requests.specs.Judging.{figuresOf, limitsOf, judgedOf};
 use crate::taking::avs_volts;
@@ -15,6 +18,7 @@ use steps::Ma10;
 use steps::Ma50;
 use steps::Mv25;
 use steps::Mv100;
+use steps::Mw250;
 use verdicts::Verdict;
 
 // No answer to a request has a place of its own.
@@ -65,20 +69,42 @@ fn reserved_bit_set(o: Object, word: u32) -> bool
     }
 }
 
-// Fixed, battery and variable: the operating and the maximum figure, in the step of the advertised one.
-fn judge_figures(advertised: u16, word: u32) -> Verdict
-    ensures { λ r. ⌜ r ≡ figuresOf advertised word ⌝ }
+// 24 comes before 25, and "the maximum figure likewise unless bit 26 is set".
+fn judge_figures(operating_too_large: bool, maximum_too_large: bool, word: u32) -> Verdict
+    ensures { λ r. ⌜ r ≡ verdictOf (refusal «operating_too_large» 24 0 ∷ refusal («maximum_too_large» && not (mismatchOf word)) 25 0 ∷ []) ⌝ }
 {
-    if advertised < operating(word) {
+    if operating_too_large {
         return placeless(verdicts::OPERATING_TOO_LARGE);
     }
     if mismatch(word) {
         return placeless(verdicts::SUCCESS);
     }
-    if advertised < maximum(word) {
+    if maximum_too_large {
         return placeless(verdicts::MAXIMUM_TOO_LARGE);
     }
     placeless(verdicts::SUCCESS)
+}
+
+// Fixed and variable objects advertise a current.
+fn judge_current(advertised: Ma10, word: u32) -> Verdict
+    ensures { λ r. ⌜ r ≡ figuresOf (advertised .0) word ⌝ }
+{
+    judge_figures(
+        advertised.0 < operating(word),
+        advertised.0 < maximum(word),
+        word,
+    )
+}
+
+// A battery object advertises a power.
+fn judge_power(advertised: Mw250, word: u32) -> Verdict
+    ensures { λ r. ⌜ r ≡ figuresOf (advertised .0) word ⌝ }
+{
+    judge_figures(
+        advertised.0 < operating(word),
+        advertised.0 < maximum(word),
+        word,
+    )
 }
 
 // A step of 100 mV is five of 20 mV.
@@ -156,13 +182,13 @@ pub(crate) fn judge(o: Object, word: u32) -> Verdict
         return placeless(verdicts::RESERVED_BIT_IN_REQUEST);
     }
     if let Object::Fixed { current, .. } = o {
-        return judge_figures(current.0, word);
+        return judge_current(current, word);
     }
     if let Object::Battery { power, .. } = o {
-        return judge_figures(power.0, word);
+        return judge_power(power, word);
     }
     if let Object::Variable { current, .. } = o {
-        return judge_figures(current.0, word);
+        return judge_current(current, word);
     }
     if let Object::Pps {
         max,

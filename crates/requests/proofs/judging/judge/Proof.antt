@@ -26,42 +26,42 @@ returns c = c .placeless .ensures ∙ sym (reserved _ _ (sym (c .before .before 
 enum-known-o : tie.Need-enum-known-o
 enum-known-o c = search needs
 
-judge-figures-requires : tie.Need-judge-figures-requires
-judge-figures-requires c κs = search needs
+judge-current-requires : tie.Need-judge-current-requires
+judge-current-requires c κs = search needs
 
 returns-2 : tie.Need-returns-2
 returns-2 c =
     let p = c .before .before .before .before in
     let w = p .before .before .args .word in
-    c .judge-figures .ensures ∙ fixed-limits _ _ w _ _
+    c .judge-current .ensures ∙ fixed-limits _ _ w _ _
     ∙ ap (λ (o : Object). limitsOf o w) (sym (c .before .before .o .given .1))
     ∙ sym (by-limits p)
 
 enum-known-o-2 : tie.Need-enum-known-o-2
 enum-known-o-2 c = search needs
 
-judge-figures-requires-2 : tie.Need-judge-figures-requires-2
-judge-figures-requires-2 c κs = search needs
+judge-power-requires : tie.Need-judge-power-requires
+judge-power-requires c κs = search needs
 
 returns-3 : tie.Need-returns-3
 returns-3 c =
     let p = c .before .before .before .before .before in
     let w = p .before .before .args .word in
-    c .judge-figures2 .ensures ∙ battery-limits w _ _ _
+    c .judge-power .ensures ∙ battery-limits w _ _ _
     ∙ ap (λ (o : Object). limitsOf o w) (sym (c .before .before .o2 .given .1))
     ∙ sym (by-limits p)
 
 enum-known-o-3 : tie.Need-enum-known-o-3
 enum-known-o-3 c = search needs
 
-judge-figures-requires-3 : tie.Need-judge-figures-requires-3
-judge-figures-requires-3 c κs = search needs
+judge-current-requires-2 : tie.Need-judge-current-requires-2
+judge-current-requires-2 c κs = search needs
 
 returns-4 : tie.Need-returns-4
 returns-4 c =
     let p = c .before .before .before .before .before .before in
     let w = p .before .before .args .word in
-    c .judge-figures3 .ensures ∙ variable-limits w _ _ _
+    c .judge-current2 .ensures ∙ variable-limits w _ _ _
     ∙ ap (λ (o : Object). limitsOf o w) (sym (c .before .before .o3 .given .1))
     ∙ sym (by-limits p)
 
@@ -115,13 +115,13 @@ judge-spec =
     placeless-requires
     returns
     enum-known-o
-    judge-figures-requires
+    judge-current-requires
     returns-2
     enum-known-o-2
-    judge-figures-requires-2
+    judge-power-requires
     returns-3
     enum-known-o-3
-    judge-figures-requires-3
+    judge-current-requires-2
     returns-4
     enum-known-o-4
     judge-pps-requires
