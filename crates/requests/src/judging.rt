@@ -9,9 +9,11 @@ ghost use Rattle.requests.specs.Limits.{besideFigures, besideVoltage, bi
 ghost use Rattle.requests.specs.Judging.{figuresOf, limitsOf, judgedOf};
 use crate::taking::avs_volts;
 use crate::taking::current;
-use crate::taking::maximum;
+use crate::taking::maximum_current;
+use crate::taking::maximum_power;
 use crate::taking::mismatch;
-use crate::taking::operating;
+use crate::taking::operating_current;
+use crate::taking::operating_power;
 use crate::taking::pps_volts;
 use objects::Object;
 use steps::Ma10;
@@ -89,22 +91,18 @@ fn judge_figures(operating_too_large: bool, maximum_too_large: bool, word: u32) 
 fn judge_current(advertised: Ma10, word: u32) -> Verdict
     ensures { λ r. ⌜ r ≡ figuresOf (advertised .0) word ⌝ }
 {
-    judge_figures(
-        advertised.0 < operating(word),
-        advertised.0 < maximum(word),
-        word,
-    )
+    let operating = operating_current(word);
+    let maximum = maximum_current(word);
+    judge_figures(advertised.0 < operating.0, advertised.0 < maximum.0, word)
 }
 
 // A battery object advertises a power.
 fn judge_power(advertised: Mw250, word: u32) -> Verdict
     ensures { λ r. ⌜ r ≡ figuresOf (advertised .0) word ⌝ }
 {
-    judge_figures(
-        advertised.0 < operating(word),
-        advertised.0 < maximum(word),
-        word,
-    )
+    let operating = operating_power(word);
+    let maximum = maximum_power(word);
+    judge_figures(advertised.0 < operating.0, advertised.0 < maximum.0, word)
 }
 
 // A step of 100 mV is five of 20 mV.

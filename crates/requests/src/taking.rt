@@ -24,17 +24,29 @@ pub(crate) fn mismatch(word: u32) -> bool
     (word >> 26) & 0x1 != 0
 }
 
-// Fixed, battery and variable, in the step of the object.
-pub(crate) fn operating(word: u32) -> u16
-    ensures { λ r. ⌜ r ≡ operatingIn word ⌝ }
+// Fixed, battery and variable share their bit places, but not the step of the figures.
+pub(crate) fn operating_current(word: u32) -> Ma10
+    ensures { λ r. ⌜ r .0 ≡ operatingIn word ⌝ }
 {
-    ((word >> 10) & 0x3FF) as u16
+    Ma10(((word >> 10) & 0x3FF) as u16)
 }
 
-pub(crate) fn maximum(word: u32) -> u16
-    ensures { λ r. ⌜ r ≡ maximumIn word ⌝ }
+pub(crate) fn maximum_current(word: u32) -> Ma10
+    ensures { λ r. ⌜ r .0 ≡ maximumIn word ⌝ }
 {
-    (word & 0x3FF) as u16
+    Ma10((word & 0x3FF) as u16)
+}
+
+pub(crate) fn operating_power(word: u32) -> Mw250
+    ensures { λ r. ⌜ r .0 ≡ operatingIn word ⌝ }
+{
+    Mw250(((word >> 10) & 0x3FF) as u16)
+}
+
+pub(crate) fn maximum_power(word: u32) -> Mw250
+    ensures { λ r. ⌜ r .0 ≡ maximumIn word ⌝ }
+{
+    Mw250((word & 0x3FF) as u16)
 }
 
 // PPS and AVS share their bit places, but not the step of the voltage.
@@ -61,16 +73,16 @@ fn requested(o: Object, word: u32) -> Request
 {
     match o {
         Object::Fixed { .. } => Request::Fixed {
-            operating: Ma10(operating(word)),
-            maximum: Ma10(maximum(word)),
+            operating: operating_current(word),
+            maximum: maximum_current(word),
         },
         Object::Battery { .. } => Request::Battery {
-            operating: Mw250(operating(word)),
-            maximum: Mw250(maximum(word)),
+            operating: operating_power(word),
+            maximum: maximum_power(word),
         },
         Object::Variable { .. } => Request::Variable {
-            operating: Ma10(operating(word)),
-            maximum: Ma10(maximum(word)),
+            operating: operating_current(word),
+            maximum: maximum_current(word),
         },
         Object::Pps { .. } => Request::Pps {
             volts: pps_volts(word),

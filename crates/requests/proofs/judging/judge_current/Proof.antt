@@ -5,11 +5,11 @@ use borrow.Author.Needs.{needs}
 use Rattle.requests.proofs.judging.judge_current.Statement.{statement}
 use Rattle.requests.proofs.judging.judge_current.Tie as tie
 
-operating-requires : tie.Need-operating-requires
-operating-requires c κs = search needs
+operating-current-requires : tie.Need-operating-current-requires
+operating-current-requires c κs = search needs
 
-maximum-requires : tie.Need-maximum-requires
-maximum-requires c κs = search needs
+maximum-current-requires : tie.Need-maximum-current-requires
+maximum-current-requires c κs = search needs
 
 judge-figures-requires : tie.Need-judge-figures-requires
 judge-figures-requires c κs = search needs
@@ -21,4 +21,4 @@ returns c = cc
 pub judge-current-spec : {M : Type 1} → statement M
 judge-current-spec =
     tie.close
-    (tie.spec operating-requires maximum-requires judge-figures-requires returns)
+    (tie.spec operating-current-requires maximum-current-requires judge-figures-requires returns)

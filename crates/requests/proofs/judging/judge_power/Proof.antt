@@ -5,11 +5,11 @@ use borrow.Author.Needs.{needs}
 use Rattle.requests.proofs.judging.judge_power.Statement.{statement}
 use Rattle.requests.proofs.judging.judge_power.Tie as tie
 
-operating-requires : tie.Need-operating-requires
-operating-requires c κs = search needs
+operating-power-requires : tie.Need-operating-power-requires
+operating-power-requires c κs = search needs
 
-maximum-requires : tie.Need-maximum-requires
-maximum-requires c κs = search needs
+maximum-power-requires : tie.Need-maximum-power-requires
+maximum-power-requires c κs = search needs
 
 judge-figures-requires : tie.Need-judge-figures-requires
 judge-figures-requires c κs = search needs
@@ -21,4 +21,4 @@ returns c = cc
 pub judge-power-spec : {M : Type 1} → statement M
 judge-power-spec =
     tie.close
-    (tie.spec operating-requires maximum-requires judge-figures-requires returns)
+    (tie.spec operating-power-requires maximum-power-requires judge-figures-requires returns)

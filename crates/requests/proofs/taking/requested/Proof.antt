@@ -15,29 +15,29 @@ use Rattle.requests.proofs.taking.requested.Tie as tie
 enum-told : tie.Need-enum-told
 enum-told c = search needs
 
-operating-requires : tie.Need-operating-requires
-operating-requires c κs = search needs
+operating-current-requires : tie.Need-operating-current-requires
+operating-current-requires c κs = search needs
 
-maximum-requires : tie.Need-maximum-requires
-maximum-requires c κs = search needs
+maximum-current-requires : tie.Need-maximum-current-requires
+maximum-current-requires c κs = search needs
 
 enum-told-2 : tie.Need-enum-told-2
 enum-told-2 c = search needs
 
-operating-requires-2 : tie.Need-operating-requires-2
-operating-requires-2 c κs = search needs
+operating-power-requires : tie.Need-operating-power-requires
+operating-power-requires c κs = search needs
 
-maximum-requires-2 : tie.Need-maximum-requires-2
-maximum-requires-2 c κs = search needs
+maximum-power-requires : tie.Need-maximum-power-requires
+maximum-power-requires c κs = search needs
 
 enum-told-3 : tie.Need-enum-told-3
 enum-told-3 c = search needs
 
-operating-requires-3 : tie.Need-operating-requires-3
-operating-requires-3 c κs = search needs
+operating-current-requires-2 : tie.Need-operating-current-requires-2
+operating-current-requires-2 c κs = search needs
 
-maximum-requires-3 : tie.Need-maximum-requires-3
-maximum-requires-3 c κs = search needs
+maximum-current-requires-2 : tie.Need-maximum-current-requires-2
+maximum-current-requires-2 c κs = search needs
 
 enum-told-4 : tie.Need-enum-told-4
 enum-told-4 c = search needs
@@ -59,17 +59,17 @@ current-requires-2 c κs = search needs
 
 returns : tie.Need-returns
 returns c =
-    ap₂ (λ (x y : ℕ). asked.Fixed (record { 0 = x }) (record { 0 = y })) (c .before .operating .ensures) (c .maximum .ensures)
+    ap₂ (λ (x y : ℕ). asked.Fixed (record { 0 = x }) (record { 0 = y })) (c .before .operating-current .ensures) (c .maximum-current .ensures)
     ∙ ap (λ (o : Object). requestOf o (c .before .before .before .before .args .word)) (sym (c .before .before .enum-told .given .1))
 
 returns-2 : tie.Need-returns-2
 returns-2 c =
-    ap₂ (λ (x y : ℕ). asked.Battery (record { 0 = x }) (record { 0 = y })) (c .before .operating2 .ensures) (c .maximum2 .ensures)
+    ap₂ (λ (x y : ℕ). asked.Battery (record { 0 = x }) (record { 0 = y })) (c .before .operating-power .ensures) (c .maximum-power .ensures)
     ∙ ap (λ (o : Object). requestOf o (c .before .before .before .before .args .word)) (sym (c .before .before .enum-told2 .given .1))
 
 returns-3 : tie.Need-returns-3
 returns-3 c =
-    ap₂ (λ (x y : ℕ). asked.Variable (record { 0 = x }) (record { 0 = y })) (c .before .operating3 .ensures) (c .maximum3 .ensures)
+    ap₂ (λ (x y : ℕ). asked.Variable (record { 0 = x }) (record { 0 = y })) (c .before .operating-current2 .ensures) (c .maximum-current2 .ensures)
     ∙ ap (λ (o : Object). requestOf o (c .before .before .before .before .args .word)) (sym (c .before .before .enum-told3 .given .1))
 
 returns-4 : tie.Need-returns-4
@@ -87,14 +87,14 @@ requested-spec =
     tie.close
     (tie.spec
     enum-told
-    operating-requires
-    maximum-requires
+    operating-current-requires
+    maximum-current-requires
     enum-told-2
-    operating-requires-2
-    maximum-requires-2
+    operating-power-requires
+    maximum-power-requires
     enum-told-3
-    operating-requires-3
-    maximum-requires-3
+    operating-current-requires-2
+    maximum-current-requires-2
     enum-told-4
     pps-volts-requires
     current-requires
