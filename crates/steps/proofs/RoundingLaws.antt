@@ -146,3 +146,11 @@ up-scaled q d k pos more = le-antisymm at-most at-least where
       up-least q d (upOf (q * k) (d * k)) pos
       (le-of-mul-le-mul-right
       (subst (λ (n : ℕ). q * k ≤ n) (sym (mul-assoc (upOf (q * k) (d * k)) d k)) (up-over (q * k) (d * k) all-pos)) more)
+
+-- neither passes the numerator
+pub up-within : (q d : ℕ) → upOf q d ≤ q
+up-within q zero = omega (arith, up-none q 0 refl)
+up-within q (suc d) = up-least q (suc d) q (omega arith) (le-mul-of-pos-right q (omega arith))
+
+pub down-within : (q d : ℕ) → downOf q d ≤ q
+down-within q d = omega (arith, down-le-up q d, up-within q d)
