@@ -21,10 +21,8 @@ use Rattle.objects.specs.declared.Decoded.{Decoded}
 use Rattle.lists.specs.declared.Words.{Words}
 use Rattle.lists.specs.Reading.{objectOf}
 use Rattle.rules.specs.declared.Profile.{Profile}
-use Rattle.rules.specs.declared.Slot.{Slot}
-use Rattle.rules.specs.declared.Slot.the-variants.{Nothing, Fixed, Avs, Prog}
 use Rattle.rules.specs.Profiles.{buildRefusals}
-use Rattle.rules.specs.Plans.{slots}
+use Rattle.rules.specs.Tables.{Slot, Nothing, Fixed, Avs, Prog, slots}
 use Rattle.rules.specs.Currents.{downAt, upAt, roundedAs, limitAt, builtCurrent}
 use Rattle.rules.specs.Building.{objectFor, builtWords}
 use Rattle.requests.specs.Taking.{positionOf, requestOf}

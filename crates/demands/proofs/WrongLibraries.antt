@@ -20,7 +20,7 @@ use Rattle.lists.specs.Shape.{isFixed5V, hasFixed, avsDiffers, shapeOf}
 use Rattle.lists.specs.Seven.{sevenTo}
 use Rattle.rules.specs.declared.Profile.{Profile}
 use Rattle.rules.specs.Profiles.{halfWatts}
-use Rattle.rules.specs.Plans.{baseSlots, progSlots}
+use Rattle.rules.specs.Tables.{baseSlots, progSlots}
 use Rattle.rules.specs.Currents.{builtCurrent, progCurrent}
 use Rattle.rules.specs.Building.{objectFor, builtOf}
 use Rattle.requests.specs.Limits.{bitSet, avsTop, avsLimit}

@@ -1,9 +1,9 @@
 -- Which currents are allowed: the cases that the code tells apart.
 -- Assumes nothing.
-use mathlib.Core.Path.{_≡_, refl, sym, ap, _∙_}
-use mathlib.Core.Bool.{Bool, true, false, _&&_, _||_, cond, true-and, true-or}
+use mathlib.Core.Path.{_≡_}
+use mathlib.Core.Bool.{true, false, _&&_, _||_}
 use Prim.Native.Nat.{ℕ, _*_, _≤_, _<_, min}
-use lib.Dec.{leb, ltb, eqb}
+use lib.Dec.{leb, eqb}
 use borrow.Author.Tests.{lt-ltb, le-ltb, le-leb, lt-leb, eq-eqb, ne-eqb}
 use Rattle.rules.specs.declared.Profile.{Profile}
 use Rattle.rules.specs.Currents.{downAt, upAt, cable10mA, fixedAllowed, progDown, cable50mA, progCurrent, mayExceed, progAllowed}

@@ -1,22 +1,21 @@
 -- The cases of the builder.
 -- Assumes nothing.
-use mathlib.Core.Path.{_≡_, refl, sym, ap, ap₂, _∙_}
+use mathlib.Core.Path.{_≡_, refl, ap, _∙_}
 use mathlib.Core.Bool.{Bool, true, false, cond}
-use mathlib.Core.List.{List, [], _∷_, _++_}
-use Prim.Native.Nat.{ℕ, _≤_}
+use mathlib.Core.List.{[], _∷_}
+use Prim.Native.Nat.{_≤_}
 use native.Mathlib.Omega.{arith}
 use lib.Dec.{eqb}
 use lib.ListN.{length}
-use Rattle.verdicts.specs.declared.Verdict.{Verdict}
-use Rattle.verdicts.specs.Refusals.{Refusal, refusal, firstOf, verdict, success, verdictOf}
-use Rattle.verdicts.proofs.First.{NoneApply, hit, onward, onto, all-missed, refused-so, none-append, numbered, numbered-append, passes}
+use Rattle.verdicts.specs.Refusals.{refusal, verdict, success, verdictOf}
+use Rattle.verdicts.proofs.First.{NoneApply, hit, onward, onto, all-missed, refused-so, none-append, numbered, passes}
 use Rattle.lists.specs.declared.Listing.{Listing}
 use Rattle.lists.specs.Writing.{noWords, writeRefused}
 use Rattle.rules.specs.declared.Profile.{Profile}
 use Rattle.rules.specs.Profiles.{ppsBelowMaximum, profileRefusals, buildRefusals}
-use Rattle.rules.specs.Plans.{baseSlots, slots}
+use Rattle.rules.specs.Tables.{baseSlots, slots}
 use Rattle.rules.specs.Building.{builtCount, builtWords, builtOf}
-use Rattle.rules.proofs.PlanFacts.{at-most-seven, base-within}
+use Rattle.rules.proofs.EachMaximum.{at-most-seven, base-within}
 
 abbrev pub builtAs : Profile → Listing
 builtAs p = record { verdict = success; list = builtWords p }

@@ -1,7 +1,7 @@
 -- Every current that is built is allowed.
 -- Assumes nothing.
 use mathlib.Core.Path.{_≡_, refl, sym, ap, _∙_, subst}
-use mathlib.Core.Bool.{Bool, true, false, cond, _||_, or-true, and-eq-true-iff}
+use mathlib.Core.Bool.{Bool, true, false, not, cond, _||_, or-true, and-eq-true-iff}
 use Prim.Native.Nat.{ℕ, zero, suc, _*_, _≤_, _<_, min}
 use native.Mathlib.Nat.{le-min, min-eq-left, min-eq-right}
 use native.Mathlib.Omega.{arith}
@@ -10,12 +10,11 @@ use borrow.Author.Tests.{leb-true, ltb-true, ltb-false, le-leb, eq-eqb, ne-eqb, 
 use Rattle.verdicts.proofs.First.{NoneApply}
 use Rattle.steps.proofs.RoundingLaws.{down-greatest, up-least, down-le-up}
 use Rattle.rules.specs.declared.Profile.{Profile}
-use Rattle.rules.specs.declared.Slot.{Slot}
-use Rattle.rules.specs.declared.Slot.the-variants.{Nothing, Fixed, Avs, Prog}
 use Rattle.rules.specs.Profiles.{profileRefusals}
+use Rattle.rules.specs.Tables.{Slot, Nothing, Fixed, Avs, Prog}
 use Rattle.rules.specs.Currents.{limitAt, builtCurrent, fixedAllowed, progCurrent, roundedAs, downAt, upAt, cable10mA}
 use Rattle.rules.specs.Building.{objectFor}
-use Rattle.rules.specs.Checking.{currentAllowed}
+use Rattle.rules.specs.Checking.{currentRefused}
 use Rattle.rules.proofs.Allowed.{at-20-V, above-3-A, up-to-3-A, built-figure}
 use Rattle.rules.proofs.Slots.{slotGood}
 use Rattle.rules.proofs.Built.{cable-low}
@@ -80,9 +79,9 @@ module _ (p : Profile) (x : NoneApply (profileRefusals p)) (volts : ℕ) (pos : 
     go false e false f = up-to-3 (eqb-false volts 20 e) (ltb-false _ _ f)
 
 -- at every slot
-pub allowed-at : (p : Profile) → NoneApply (profileRefusals p) → (first : Bool) (s : Slot) → slotGood s ≡ true → currentAllowed p s (objectFor p first s) ≡ true
-unfolding objectFor currentAllowed
+pub allowed-at : (p : Profile) → NoneApply (profileRefusals p) → (first : Bool) (s : Slot) → slotGood s ≡ true → currentRefused p s (objectFor p first s) ≡ false
+unfolding objectFor currentRefused
 allowed-at p x first Nothing g = refl
-allowed-at p x first (Fixed volts) g = built-allowed p x volts (leb-true 1 volts (and-eq-true-iff (leb 1 volts) (leb volts 20) .0 g .0))
+allowed-at p x first (Fixed volts) g = ap not (built-allowed p x volts (leb-true 1 volts (and-eq-true-iff (leb 1 volts) (leb volts 20) .0 g .0)))
 allowed-at p x first (Avs past15V) g = refl
-allowed-at p x first (Prog volts top) g = built-figure p volts (progCurrent p volts) refl
+allowed-at p x first (Prog volts top) g = ap not (built-figure p volts (progCurrent p volts) refl)

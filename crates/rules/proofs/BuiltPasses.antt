@@ -1,11 +1,10 @@
 -- Every list that is built for a profile passes the rule check for that profile.
 -- Assumes nothing.
 use mathlib.Core.Path.{_≡_, refl, sym, ap, ap₂, _∙_, subst}
-use mathlib.Core.Bool.{Bool, true, false, not, cond, _&&_, _||_, or-true}
+use mathlib.Core.Bool.{Bool, true, false, not, cond, _&&_, _||_, Bool·beq, or-true}
 use mathlib.Core.List.{List, [], _∷_, _++_}
 use Prim.Native.Nat.{ℕ, zero, suc, _-_, _*_, _^_, _≤_, _<_}
 use native.Mathlib.Nat.{mul-assoc}
-use native.Mathlib.Numerals.{add-one}
 use native.Mathlib.Omega.{arith}
 use lib.Dec.{ltb, eqb, eqb·suc-zero}
 use lib.ListN.{length, getD}
@@ -29,17 +28,18 @@ use Rattle.lists.proofs.Shapes.{counted}
 use Rattle.lists.proofs.Sevens.{filled-at, past-filled}
 use Rattle.lists.proofs.RoundTrips.{Words32}
 use Rattle.rules.specs.declared.Profile.{Profile}
-use Rattle.rules.specs.declared.Slot.{Slot}
-use Rattle.rules.specs.declared.Slot.the-variants.{Nothing, Fixed, Avs, Prog}
 use Rattle.rules.specs.Profiles.{ppsBelowMaximum, profileRefusals, buildRefusals}
-use Rattle.rules.specs.Plans.{baseSlots, slots}
+use Rattle.rules.specs.Tables.{Slot, Nothing, Fixed, Avs, Prog, baseSlots, slots}
 use Rattle.rules.specs.Currents.{builtCurrent}
 use Rattle.rules.specs.Building.{objectFor, wordFor, builtCount, builtWords}
-use Rattle.rules.specs.Checking.{fits, allFit, rightCount, wrongSet, currentAllowed, currentRows, checkRefusals}
-use Rattle.rules.proofs.PlanFacts.{base-within}
-use Rattle.rules.proofs.ProfileCases.{max-high, max-low, present-high}
+use Rattle.rules.specs.Sets.{fits, wrongSet}
+use Rattle.rules.specs.Checking.{currentRefused, currentRows, checkRefusals}
+use Rattle.rules.specs.Following.{allFit, rightCount}
+use Rattle.rules.proofs.EachMaximum.{base-within}
+use Rattle.rules.proofs.ProfileCases.{max-high, max-low}
 use Rattle.rules.proofs.Builds.{built-count-high}
-use Rattle.rules.proofs.Checks.{none-looked, fit-more, right-set}
+use Rattle.rules.proofs.Listed.{fit-all}
+use Rattle.rules.proofs.SetLaw.{set-law}
 use Rattle.rules.proofs.Slots.{slotGood, good-at, base-not-empty, first-is-5-V, has-15-V, has-20-V, follow-is, follows-at}
 use Rattle.rules.proofs.Built.{some-at-20-V, has-word, no-flags-later, in-bounds, in-power}
 use Rattle.rules.proofs.BuiltCurrents.{allowed-at}
@@ -49,7 +49,7 @@ pub fits-own : (p : Profile) → NoneApply (profileRefusals p) → (first : Bool
 unfolding fits objectFor
 fits-own p x first Nothing g = let z : false ≡ true = g in cc
 fits-own p x first (Fixed volts) g = eq-eqb (volts * 20 * 50) (volts * 1000) (mul-assoc volts 20 50)
-fits-own p x first (Avs true) g = ap not (ne-eqb (builtCurrent p 20) 0 (λ e. omega (arith, some-at-20-V p x)))
+fits-own p x first (Avs true) g = ap (λ (b : Bool). Bool·beq true (not b)) (ne-eqb (builtCurrent p 20) 0 (λ e. omega (arith, some-at-20-V p x)))
 fits-own p x first (Avs false) g = refl
 fits-own p x first (Prog volts top) g = ap (λ (b : Bool). b && true) (eq-eqb (top * 100) (top * 100) refl)
 
@@ -168,12 +168,8 @@ module _ (p : Profile) (b : NoneApply (buildRefusals p)) where
 
   -- ---- the set of objects and their currents
 
-  all-fit : (k : ℕ) → k ≤ n → allFit (slots m) ws k ≡ true
-  all-fit zero h = none-looked (slots m) ws
-  all-fit (suc k) h =
-      subst (λ (j : ℕ). allFit (slots m) ws j ≡ true) (add-one k)
-      (fit-more (slots m) ws k (all-fit k (omega arith))
-      (ap (ofObject (fits (slot k))) (known k (omega arith)) ∙ fits-own p profile-clear (eqb k 0) (slot k) (good k (omega arith))))
+  all-fit : allFit (slots m) ws n ≡ true
+  all-fit = fit-all (slots m) ws n (λ k h. ap (ofObject (fits (slot k))) (known k h) ∙ fits-own p profile-clear (eqb k 0) (slot k) (good k h))
 
   right-count : rightCount p n ≡ true
   right-count = go (eqb (p .pps) 1) refl where
@@ -182,26 +178,25 @@ module _ (p : Profile) (b : NoneApply (buildRefusals p)) where
 
     go : (t : Bool) → eqb (p .pps) 1 ≡ t
         → (eqb (cond t (length (slots m)) (length (baseSlots m))) (length (baseSlots m))
-        || (eqb (p .present .0) m && eqb (cond t (length (slots m)) (length (baseSlots m))) (length (slots m)))) ≡ true
+        || (not (ltb (p .present .0) m) && eqb (cond t (length (slots m)) (length (baseSlots m))) (length (slots m)))) ≡ true
     go true e =
-        let l : m ≤ p .present .0 = ltb-false (p .present .0) m (sym (ap (λ (q : Bool). q && ltb (p .present .0) m) e) ∙ below) in
-        let q : p .present .0 ≡ m = omega (arith, present-high p profile-clear) in
         ap (λ (r : Bool). eqb (length (slots m)) (length (baseSlots m)) || r)
-        (ap₂ _&&_ (eq-eqb (p .present .0) m q) (eq-eqb (length (slots m)) (length (slots m)) refl))
+        (ap₂ (λ (q r : Bool). not q && r) (sym (ap (λ (q : Bool). q && ltb (p .present .0) m) e) ∙ below) (eq-eqb (length (slots m)) (length (slots m)) refl))
         ∙ or-true (eqb (length (slots m)) (length (baseSlots m)))
-    go false e = ap (λ (r : Bool). r || (eqb (p .present .0) m && eqb (length (baseSlots m)) (length (slots m)))) (eq-eqb (length (baseSlots m)) (length (baseSlots m)) refl)
+    go false e =
+        ap (λ (r : Bool). r || (not (ltb (p .present .0) m) && eqb (length (baseSlots m)) (length (slots m))))
+        (eq-eqb (length (baseSlots m)) (length (baseSlots m)) refl)
+
+  right-set : wrongSet p (builtWords p) ≡ false
+  right-set = set-law p (builtWords p) profile-clear shape-clear ∙ ap not (ap₂ _&&_ right-count all-fit)
 
   currents-clear : (k : ℕ) → k < n → NoneApply (currentRows p ws k)
-  currents-clear k h = (
-    ap (ofObject (λ (o : Object). not (currentAllowed p (slot k) o))) (known k h)
-        ∙ ap not (allowed-at p profile-clear (eqb k 0) (slot k) (good k h)),
-    tt,
-  )
+  currents-clear k h = (ap (ofObject (currentRefused p (slot k))) (known k h) ∙ allowed-at p profile-clear (eqb k 0) (slot k) (good k h), tt)
 
   pub check-clear : NoneApply (checkRefusals p (builtWords p))
   check-clear =
       let last = refusal (wrongSet p (builtWords p)) 18 0 ∷ eachPlace (currentRows p ws) n in
-      let tail : NoneApply last = (right-set p (builtWords p) right-count (all-fit n (omega arith)), none-all (currentRows p ws) n currents-clear) in
+      let tail : NoneApply last = (right-set, none-all (currentRows p ws) n currents-clear) in
       none-append (profileRefusals p) (shapeRefusals (builtWords p) ++ last) profile-clear
       (none-append (shapeRefusals (builtWords p)) last shape-clear tail)
 

@@ -1,6 +1,6 @@
 -- The verdict of the default profile, and what a refusal gives.
 -- Assumes nothing.
-use mathlib.Core.Path.{_≡_, refl, sym, ap, _∙_}
+use mathlib.Core.Path.{_≡_, refl, ap, _∙_}
 use Rattle.verdicts.specs.Refusals.{success, verdictOf}
 use Rattle.verdicts.proofs.First.{onto, refused-so, passes}
 use Rattle.steps.specs.declared.HalfWatts.{HalfWatts}

@@ -1,11 +1,10 @@
 -- Rounding by the profile's choice, and which programmable supplies may exceed what is built.
 -- Assumes nothing.
-use mathlib.Core.Path.{_≡_, refl, sym, ap, _∙_}
-use mathlib.Core.Bool.{Bool, true, false, _&&_, _||_, or-false}
-use Prim.Native.Nat.{ℕ, zero, suc, _<_}
-use native.Mathlib.Omega.{arith}
-use lib.Dec.{ltb, eqb}
-use borrow.Author.Tests.{eq-eqb, ne-eqb}
+use mathlib.Core.Path.{_≡_, refl}
+use mathlib.Core.Bool.{false, _&&_, or-false}
+use Prim.Native.Nat.{ℕ, zero, suc}
+use lib.Dec.{ltb}
+use borrow.Author.Tests.{ne-eqb}
 use Rattle.rules.specs.Currents.{roundedAs, mayExceed}
 
 pub rounds-down : {r : ℕ} (down up : ℕ) → r ≡ 0 → roundedAs r down up ≡ down

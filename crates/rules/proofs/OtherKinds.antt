@@ -1,58 +1,37 @@
--- What the `else` of a `let .. else` tells of an object: the tests of another kind say no, or say nothing.
+-- What is asked of an object of one kind is answered no for every other kind: `let .. else` tells which kind an object is not.
 -- Assumes nothing.
 use mathlib.Core.Path.{_≡_, refl}
-use mathlib.Core.Bool.{Bool, true, false}
-use mathlib.Core.List.{List, [], _∷_}
-use Prim.Native.Nat.{ℕ}
+use mathlib.Core.Bool.{Bool, false}
+use mathlib.Core.List.{[], _∷_}
 use types.Run.{OneOf}
 use denote.Enum.Declared.{tagOf}
+use Rattle.steps.specs.declared.Mv50.{Mv50}
+use Rattle.steps.specs.declared.Mv100.{Mv100}
+use Rattle.steps.specs.declared.Ma10.{Ma10}
+use Rattle.steps.specs.declared.Ma50.{Ma50}
 use Rattle.objects.proofs.Object.{the-type}
 use Rattle.objects.proofs.Others.{apart}
 use Rattle.objects.specs.declared.Object.{Object}
 use Rattle.objects.specs.declared.Object.the-variants.{Fixed, Battery, Variable, Pps, Avs}
-use Rattle.rules.specs.declared.Profile.{Profile}
-use Rattle.rules.specs.Checking.{fitsFixed, fitsAvs, fitsProg, fixedCurrentAllowed, progCurrentAllowed}
+use Rattle.objects.specs.Asking.{ofFixed, ofPps, ofAvs}
 
-abbrev NotFixed : Object → Type 0
-NotFixed o = OneOf (1 ∷ 2 ∷ 3 ∷ 4 ∷ []) (tagOf the-type o)
+pub fixed-only : (asked : Mv50 → Ma10 → Bool) (o : Object) → OneOf (1 ∷ 2 ∷ 3 ∷ 4 ∷ []) (tagOf the-type o) → ofFixed asked o ≡ false
+fixed-only asked (Fixed f p v a) h = absurd (apart 0 (1 ∷ 2 ∷ 3 ∷ 4 ∷ []) refl h)
+fixed-only asked (Battery x m p) h = refl
+fixed-only asked (Variable x m a) h = refl
+fixed-only asked (Pps l x m a) h = refl
+fixed-only asked (Avs p l h) g = refl
 
-abbrev NotPps : Object → Type 0
-NotPps o = OneOf (0 ∷ 1 ∷ 2 ∷ 4 ∷ []) (tagOf the-type o)
+pub pps-only : (asked : Mv100 → Mv100 → Ma50 → Bool) (o : Object) → OneOf (0 ∷ 1 ∷ 2 ∷ 4 ∷ []) (tagOf the-type o) → ofPps asked o ≡ false
+pps-only asked (Fixed f p v a) h = refl
+pps-only asked (Battery x m p) h = refl
+pps-only asked (Variable x m a) h = refl
+pps-only asked (Pps l x m a) h = absurd (apart 3 (0 ∷ 1 ∷ 2 ∷ 4 ∷ []) refl h)
+pps-only asked (Avs p l h) g = refl
 
-abbrev NotAvs : Object → Type 0
-NotAvs o = OneOf (0 ∷ 1 ∷ 2 ∷ 3 ∷ []) (tagOf the-type o)
-
-pub fixed-only : (volts : ℕ) (o : Object) → NotFixed o → fitsFixed volts o ≡ false
-fixed-only volts (Fixed f p v a) h = absurd (apart 0 (1 ∷ 2 ∷ 3 ∷ 4 ∷ []) refl h)
-fixed-only volts (Battery x m p) h = refl
-fixed-only volts (Variable x m a) h = refl
-fixed-only volts (Pps l x m a) h = refl
-fixed-only volts (Avs p l h) g = refl
-
-pub avs-only : (past : Bool) (o : Object) → NotAvs o → fitsAvs past o ≡ false
-avs-only past (Fixed f p v a) h = refl
-avs-only past (Battery x m p) h = refl
-avs-only past (Variable x m a) h = refl
-avs-only past (Pps l x m a) h = refl
-avs-only past (Avs p l h) g = absurd (apart 4 (0 ∷ 1 ∷ 2 ∷ 3 ∷ []) refl g)
-
-pub prog-only : (top : ℕ) (o : Object) → NotPps o → fitsProg top o ≡ false
-prog-only top (Fixed f p v a) h = refl
-prog-only top (Battery x m p) h = refl
-prog-only top (Variable x m a) h = refl
-prog-only top (Pps l x m a) h = absurd (apart 3 (0 ∷ 1 ∷ 2 ∷ 4 ∷ []) refl h)
-prog-only top (Avs p l h) g = refl
-
-pub fixed-current-only : (p : Profile) (volts : ℕ) (o : Object) → NotFixed o → fixedCurrentAllowed p volts o ≡ true
-fixed-current-only p volts (Fixed f k v a) h = absurd (apart 0 (1 ∷ 2 ∷ 3 ∷ 4 ∷ []) refl h)
-fixed-current-only p volts (Battery x m w) h = refl
-fixed-current-only p volts (Variable x m a) h = refl
-fixed-current-only p volts (Pps l x m a) h = refl
-fixed-current-only p volts (Avs k l h) g = refl
-
-pub prog-current-only : (p : Profile) (volts : ℕ) (o : Object) → NotPps o → progCurrentAllowed p volts o ≡ true
-prog-current-only p volts (Fixed f k v a) h = refl
-prog-current-only p volts (Battery x m w) h = refl
-prog-current-only p volts (Variable x m a) h = refl
-prog-current-only p volts (Pps l x m a) h = absurd (apart 3 (0 ∷ 1 ∷ 2 ∷ 4 ∷ []) refl h)
-prog-current-only p volts (Avs k l h) g = refl
+pub avs-only : (asked : Ma10 → Ma10 → Bool) (o : Object) → OneOf (0 ∷ 1 ∷ 2 ∷ 3 ∷ []) (tagOf the-type o) → ofAvs asked o ≡ false
+avs-only asked (Fixed f p v a) h = refl
+avs-only asked (Battery x m p) h = refl
+avs-only asked (Variable x m a) h = refl
+avs-only asked (Pps l x m a) h = refl
+avs-only asked (Avs p l h) g = absurd (apart 4 (0 ∷ 1 ∷ 2 ∷ 3 ∷ []) refl g)

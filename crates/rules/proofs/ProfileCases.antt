@@ -1,15 +1,16 @@
 -- The refusals of a profile, case by case, and what a profile that passes says.
 -- Assumes nothing.
-use mathlib.Core.Path.{_≡_, refl, sym, ap, _∙_}
+use mathlib.Core.Path.{_≡_, refl, _∙_}
 use mathlib.Core.Bool.{Bool, true, false, not, _&&_, _||_, and-eq-true-iff}
-use mathlib.Core.List.{List, [], _∷_, _++_}
+use mathlib.Core.List.{List, [], _∷_}
 use Prim.Native.Nat.{ℕ, _≤_}
+use native.Mathlib.Omega.{arith}
 use lib.Dec.{ltb, eqb}
 use borrow.Author.Tests.{ltb-false, eqb-true}
 use Rattle.verdicts.specs.Refusals.{Refusal, refusal, firstOf, verdict, success, verdictOf}
 use Rattle.verdicts.proofs.First.{NoneApply, hit, miss, all-missed, numbered}
 use Rattle.rules.specs.declared.Profile.{Profile}
-use Rattle.rules.specs.Profiles.{badCable, profileRows, profileRefusals}
+use Rattle.rules.specs.Profiles.{badCable, profileRows, profileRefusals, Within}
 use Rattle.steps.specs.Ranges.{within}
 use Rattle.steps.proofs.RangeLaws.{at-least, at-most}
 use Rattle.verdicts.proofs.Bools.{either-false}
@@ -69,6 +70,9 @@ module _ (p : Profile) (x : NoneApply (profileRefusals p)) where
 
   pub flags-high : p .flags ≤ 63
   flags-high = ltb-false 63 (p .flags) (x .1 .1 .1 .1 .0)
+
+  pub within-bounds : Within p
+  within-bounds = record { max = max-high; present = omega (arith, present-high, max-high); flags = flags-high }
 
 abbrev allPlaces0 : List Refusal → Bool
 allPlaces0 [] = true

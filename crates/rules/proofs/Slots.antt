@@ -10,11 +10,9 @@ use lib.ListN.{length, getD}
 use borrow.Author.Tests.{leb-true, ltb-true, le-ltb, eqb-true}
 use Rattle.lists.specs.ObjectRules.{rankOf, keyOf, keysMayFollow, mayFollow}
 use Rattle.rules.specs.declared.Profile.{Profile}
-use Rattle.rules.specs.declared.Slot.{Slot}
-use Rattle.rules.specs.declared.Slot.the-variants.{Nothing, Fixed, Avs, Prog}
-use Rattle.rules.specs.Plans.{baseSlots, progSlots, slots}
+use Rattle.rules.specs.Tables.{Slot, Nothing, Fixed, Avs, Prog, baseSlots, progSlots, slots}
 use Rattle.rules.specs.Building.{objectFor}
-use Rattle.rules.proofs.PlanFacts.{everyBelow, at-each}
+use Rattle.rules.proofs.EachMaximum.{everyBelow, at-each}
 
 -- ---- slots that a list can have
 

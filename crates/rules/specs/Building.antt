@@ -1,10 +1,11 @@
 -- The list that is built for a profile (01, "Power rules").
 -- Assumes nothing.
+use mathlib.Core.Path.{_≡_}
 use mathlib.Core.Bool.{Bool, true, false, cond}
 use mathlib.Core.List.{List}
-use Prim.Native.Nat.{ℕ, _*_, _≤_}
+use Prim.Native.Nat.{ℕ, _+_, _*_}
 use lib.Dec.{eqb}
-use lib.ListN.{getD, length}
+use lib.ListN.{getD, length, set}
 use Rattle.verdicts.specs.Refusals.{firstOf, success}
 use Rattle.objects.specs.declared.Object.{Object}
 use Rattle.objects.specs.declared.Object.the-variants as object
@@ -15,23 +16,14 @@ use Rattle.lists.specs.Seven.{sevenTo}
 use Rattle.lists.specs.Reading.{zeroObject}
 use Rattle.lists.specs.Writing.{wordIn, writeRefused}
 use Rattle.rules.specs.declared.Profile.{Profile}
-use Rattle.rules.specs.declared.Slot.{Slot}
-use Rattle.rules.specs.declared.Slot.the-variants.{Nothing, Fixed, Avs, Prog}
 use Rattle.rules.specs.Profiles.{buildRefusals}
-use Rattle.rules.specs.Plans.{baseSlots, slots}
+use Rattle.rules.specs.Tables.{Slot, Nothing, Fixed, Avs, Prog, baseSlots, slots}
 use Rattle.rules.specs.Currents.{builtCurrent, progCurrent}
 
 -- "flags F (0..63, placed in bits 29..24 of the first word; bit 23 is zero)": the flag field begins at bit 23
 abbrev pub flagsAt : Bool → ℕ → ℕ
 flagsAt true flags = flags * 2
 flagsAt false flags = 0
-
--- no slot has more than 20 volts
-abbrev pub SlotWithin : Slot → Type 0
-SlotWithin Nothing = Unit {0}
-SlotWithin (Fixed volts) = volts ≤ 20
-SlotWithin (Avs past15V) = Unit {0}
-SlotWithin (Prog volts top) = Unit {0}
 
 -- the object at a slot; the power limited bit of PPS is set, peak current is 0
 unfoldable pub objectFor : Profile → Bool → Slot → Object
@@ -59,6 +51,16 @@ firstWords p n = record { words = sevenTo (wordFor p) 0 n; count = n }
 
 abbrev pub builtWords : Profile → Words
 builtWords p = firstWords p (builtCount p)
+
+-- a word that goes to a place of the list, or does not, and the next place
+pub record PutIf (goes : Bool) (word : ℕ) (before : List ℕ) (at : ℕ) (after : List ℕ) (next : ℕ) : Type 0 where
+  pub words : after ≡ cond goes (set before at word) before
+  pub place : next ≡ cond goes (at + 1) at
+
+-- how the list is put down: the first n words of the full list stand there, and next is the place after them
+pub record PutDown (p : Profile) (n : ℕ) (ws : List ℕ) (next : ℕ) : Type 0 where
+  pub place : next ≡ n
+  pub words : ws ≡ sevenTo (wordFor p) 0 n
 
 unfoldable pub builtOf : Profile → Listing
 builtOf p = firstOf writeRefused (buildRefusals p) (record { verdict = success; list = builtWords p })

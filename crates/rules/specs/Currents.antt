@@ -1,6 +1,6 @@
 -- Currents (01, "Power rules"; 004, tables 10-2, 10-3 and 10-7). P chooses them, and for PPS M does.
 -- Assumes nothing.
-use mathlib.Core.Bool.{Bool, true, false, cond, _&&_, _||_}
+use mathlib.Core.Bool.{Bool, cond, _&&_, _||_}
 use Prim.Native.Nat.{ℕ, zero, suc, _*_, min}
 use lib.Dec.{leb, ltb, eqb}
 use Rattle.steps.specs.Rounding.{downOf, upOf}

@@ -1,7 +1,8 @@
 pub mod Profiles
-pub mod Plans
+pub mod Tables
 pub mod Currents
 pub mod Building
-pub mod Ranges
+pub mod Sets
 pub mod Checking
+pub mod Following
 pub mod Promises

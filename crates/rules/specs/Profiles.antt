@@ -1,8 +1,8 @@
 -- The profile of a port (01, "Power rules" and "Refusal numbers").
 -- Assumes nothing.
-use mathlib.Core.Bool.{Bool, true, false, not, _&&_, _||_}
+use mathlib.Core.Bool.{Bool, not, _&&_, _||_}
 use mathlib.Core.List.{List, [], _∷_, _++_}
-use Prim.Native.Nat.{ℕ}
+use Prim.Native.Nat.{ℕ, _≤_}
 use lib.Dec.{ltb, eqb}
 use Rattle.verdicts.specs.Refusals.{Refusal, refusal, firstOf, verdict, success}
 use Rattle.steps.specs.Ranges.{within}
@@ -33,6 +33,12 @@ ppsBelowMaximum p = eqb (p .pps) 1 && ltb (p .present .0) (p .max .0)
 
 abbrev pub buildRefusals : Profile → List Refusal
 buildRefusals p = profileRefusals p ++ (refusal (ppsBelowMaximum p) 6 0 ∷ [])
+
+-- what the private functions use of a profile that passes
+pub record Within (p : Profile) : Type 0 where
+  pub max : p .max .0 ≤ 200
+  pub present : p .present .0 ≤ 200
+  pub flags : p .flags ≤ 63
 
 -- ---- the default profile
 

@@ -1,29 +1,31 @@
 // The list that is built for a profile.
 ghost use mathlib.Core.Path.{_≡_};
-ghost use mathlib.Core.Bool.{cond, false};
-ghost use Prim.Native.Nat.{_≤_, _<_};
-ghost use lib.Dec.{eqb};
-ghost use lib.ListN.{getD};
+ghost use mathlib.Core.Bool.{cond, true, false};
+ghost use Prim.Native.Nat.{_+_, _≤_, _<_};
+ghost use lib.Dec.{ltb, eqb};
+ghost use lib.ListN.{length, set, replicate};
 ghost use Rattle.lists.specs.Writing.{wordIn, writeRefused};
-ghost use Rattle.rules.specs.declared.Slot.{Slot};
-ghost use Rattle.rules.specs.Plans.{row, rails};
-ghost use Rattle.rules.specs.Profiles.{ppsBelowMaximum};
+ghost use Rattle.rules.specs.Profiles.{Within, ppsBelowMaximum};
+ghost use Rattle.rules.specs.Tables.{Fixed, Avs, Prog, rails, fixedSlots, baseSlots, exceeds, holds};
 ghost use Rattle.rules.specs.Currents.{builtCurrent};
-ghost use Rattle.rules.specs.Building.{flagsAt, slotWord};
-ghost use Rattle.rules.specs.Ranges.{wordsIn};
+ghost use Rattle.rules.specs.Building.{flagsAt, slotWord, builtCount, PutIf, PutDown};
 ghost use Rattle.rules.specs.Promises.{Builds};
 use crate::Profile;
-use crate::Range;
+use crate::currents::between;
 use crate::currents::built_current;
 use crate::currents::prog_current;
-use crate::planning::RAILS;
-use crate::planning::range_of;
 use crate::profiles::judge_profile;
+use crate::tables::AVS_ABOVE;
+use crate::tables::AVS_PAST_15_V_ABOVE;
+use crate::tables::BOTTOM;
+use crate::tables::RAILS;
+use crate::tables::Rail;
+use crate::tables::SUPPLIES;
+use crate::tables::Supply;
 use lists::Listing;
 use lists::Words;
 use objects::Encoded;
 use steps::Ma10;
-use steps::Ma50;
 use steps::Mv50;
 use steps::Mv100;
 use verdicts::Verdict;
@@ -36,12 +38,6 @@ fn flags_at(first: bool, flags: u8) -> u8
     if first { flags * 2 } else { 0 }
 }
 
-fn second_current(p: Profile, past_15_v: bool) -> u16
-    ensures { λ r. ⌜ r ≡ cond past_15_v (builtCurrent p 20) 0 ⌝ }
-{
-    if past_15_v { built_current(p, 20) } else { 0 }
-}
-
 // The word of what was encoded; every object that is built has one.
 fn word_in(e: Encoded) -> u32
     ensures { λ r. ⌜ r ≡ wordIn e ⌝ }
@@ -52,167 +48,119 @@ fn word_in(e: Encoded) -> u32
     w
 }
 
-// The word of a row of the table.
-fn rail_word(p: Profile, at: usize) -> u32
-    requires { ⌜ (p .flags ≤ 63) × (at < 4) ⌝ }
-    ensures { λ r. ⌜ r ≡ slotWord p (eqb at 0) (Slot.Fixed (getD rails at (row 0 0) .volts)) ⌝ }
+fn rail_word(p: Profile, first: bool, volts: u16) -> u32
+    requires { ⌜ Within p × (volts ≤ 20) ⌝ }
+    ensures { λ r. ⌜ r ≡ slotWord p first (Fixed volts) ⌝ }
 {
-    let rail = RAILS[at];
-    let volts = rail.volts;
     let current = built_current(p, volts);
-    let flags = flags_at(at == 0, p.flags);
-    let e = objects::fixed_word(flags, 0, Mv50(volts * 20), Ma10(current));
+    let flags = flags_at(first, p.flags);
+    let e = objects::fixed_word(flags, 0, Mv50(volts * 20), current);
     word_in(e)
 }
 
-fn avs_word(p: Profile, past_15_v: bool) -> u32
-    ensures { λ r. ⌜ r ≡ slotWord p false (Slot.Avs past_15_v) ⌝ }
+fn second_current(p: Profile) -> Ma10
+    requires { ⌜ Within p ⌝ }
+    ensures { λ r. ⌜ r .0 ≡ cond (ltb 90 (p .max .0)) (builtCurrent p 20) 0 ⌝ }
+{
+    if AVS_PAST_15_V_ABOVE.0 < p.max.0 {
+        return built_current(p, 20);
+    }
+    Ma10(0)
+}
+
+fn avs_word(p: Profile) -> u32
+    requires { ⌜ Within p ⌝ }
+    ensures { λ r. ⌜ r ≡ slotWord p false (Avs (ltb 90 (p .max .0))) ⌝ }
 {
     let low = built_current(p, 15);
-    let high = second_current(p, past_15_v);
-    let e = objects::avs_word(0, Ma10(low), Ma10(high));
+    let high = second_current(p);
+    let e = objects::avs_word(0, low, high);
     word_in(e)
 }
 
-fn prog_word(p: Profile, volts: u16, top: u16) -> u32
-    ensures { λ r. ⌜ r ≡ slotWord p false (Slot.Prog volts top) ⌝ }
+fn supply_word(p: Profile, volts: u16, top: Mv100) -> u32
+    requires { ⌜ Within p ⌝ }
+    ensures { λ r. ⌜ r ≡ slotWord p false (Prog volts (top .0)) ⌝ }
 {
     let current = prog_current(p, volts);
-    let e = objects::pps_word(1, Mv100(top), Mv100(50), Ma50(current));
+    let e = objects::pps_word(1, top, BOTTOM, current);
     word_in(e)
 }
 
-fn words_to_15_w(p: Profile) -> Words
-    requires { ⌜ p .flags ≤ 63 ⌝ }
-    ensures { λ r. ⌜ r ≡ wordsIn p Range.To15W ⌝ }
+// A word goes to a place of the list; the next place is the answer.
+fn put(words: &mut [u32; 7], at: usize, word: u32) -> usize
+    requires { ⌜ at < 7 ⌝ }
+    ensures { λ r. ⌜ (now (words .exit) ≡ set (now (words .entry)) at word) × (r ≡ at + 1) ⌝ }
 {
-    let first = rail_word(p, 0);
-    Words {
-        words: [first, 0, 0, 0, 0, 0, 0],
-        count: 1,
-    }
+    words[at] = word;
+    at + 1
 }
 
-fn words_to_27_w(p: Profile) -> Words
-    requires { ⌜ p .flags ≤ 63 ⌝ }
-    ensures { λ r. ⌜ r ≡ wordsIn p Range.To27W ⌝ }
+// The word of a row, where M exceeds it.
+fn put_rail(words: &mut [u32; 7], at: usize, p: Profile, row: Rail) -> usize
+    requires { ⌜ Within p × (row .volts ≤ 20) × (row .above .0 < p .max .0 → at < 7) ⌝ }
+    ensures { λ r. ⌜ PutIf (exceeds (p .max .0) row) (slotWord p (eqb at 0) (Fixed (row .volts))) (now (words .entry)) at (now (words .exit)) r ⌝ }
 {
-    let first = rail_word(p, 0);
-    let second = rail_word(p, 1);
-    if p.pps == 1 {
-        let prog = prog_word(p, 9, 110);
-        return Words {
-            words: [first, second, prog, 0, 0, 0, 0],
-            count: 3,
-        };
+    if p.max.0 <= row.above.0 {
+        return at;
     }
-    Words {
-        words: [first, second, 0, 0, 0, 0, 0],
-        count: 2,
-    }
+    let word = rail_word(p, at == 0, row.volts);
+    put(words, at, word)
 }
 
-fn words_below_45_w(p: Profile) -> Words
-    requires { ⌜ p .flags ≤ 63 ⌝ }
-    ensures { λ r. ⌜ r ≡ wordsIn p Range.Below45W ⌝ }
+fn put_rails(words: &mut [u32; 7], p: Profile) -> usize
+    requires { ⌜ Within p × (now words ≡ replicate 7 0) ⌝ }
+    ensures { λ r. ⌜ PutDown p (length (fixedSlots (p .max .0) rails)) (now (words .exit)) r ⌝ }
 {
-    let first = rail_word(p, 0);
-    let second = rail_word(p, 1);
-    let third = rail_word(p, 2);
-    let avs = avs_word(p, false);
-    if p.pps == 1 {
-        let prog = prog_word(p, 9, 110);
-        let next = prog_word(p, 15, 160);
-        return Words {
-            words: [first, second, third, avs, prog, next, 0],
-            count: 6,
-        };
+    let mut at = 0;
+    let mut i = 0;
+    while i < 4 {
+        let row = RAILS[i];
+        at = put_rail(words, at, p, row);
+        i += 1;
     }
-    Words {
-        words: [first, second, third, avs, 0, 0, 0],
-        count: 4,
-    }
+    at
 }
 
-fn words_at_45_w(p: Profile) -> Words
-    requires { ⌜ p .flags ≤ 63 ⌝ }
-    ensures { λ r. ⌜ r ≡ wordsIn p Range.At45W ⌝ }
+fn put_avs(words: &mut [u32; 7], at: usize, p: Profile) -> usize
+    requires { ⌜ Within p × (54 < p .max .0 → at < 7) ⌝ }
+    ensures { λ r. ⌜ PutIf (ltb 54 (p .max .0)) (slotWord p (eqb at 0) (Avs (ltb 90 (p .max .0)))) (now (words .entry)) at (now (words .exit)) r ⌝ }
 {
-    let first = rail_word(p, 0);
-    let second = rail_word(p, 1);
-    let third = rail_word(p, 2);
-    let avs = avs_word(p, false);
-    if p.pps == 1 {
-        let prog = prog_word(p, 15, 160);
-        return Words {
-            words: [first, second, third, avs, prog, 0, 0],
-            count: 5,
-        };
+    if p.max.0 <= AVS_ABOVE.0 {
+        return at;
     }
-    Words {
-        words: [first, second, third, avs, 0, 0, 0],
-        count: 4,
-    }
+    let word = avs_word(p);
+    put(words, at, word)
 }
 
-fn words_below_60_w(p: Profile) -> Words
-    requires { ⌜ p .flags ≤ 63 ⌝ }
-    ensures { λ r. ⌜ r ≡ wordsIn p Range.Below60W ⌝ }
+// The word of a supply, where its row holds M.
+fn put_supply(words: &mut [u32; 7], at: usize, p: Profile, row: Supply) -> usize
+    requires { ⌜ Within p × (holds (p .max .0) row ≡ true → at < 7) ⌝ }
+    ensures { λ r. ⌜ PutIf (holds (p .max .0) row) (slotWord p (eqb at 0) (Prog (row .volts) (row .top .0))) (now (words .entry)) at (now (words .exit)) r ⌝ }
 {
-    let first = rail_word(p, 0);
-    let second = rail_word(p, 1);
-    let third = rail_word(p, 2);
-    let fourth = rail_word(p, 3);
-    let avs = avs_word(p, true);
-    if p.pps == 1 {
-        let prog = prog_word(p, 15, 160);
-        let next = prog_word(p, 20, 210);
-        return Words {
-            words: [first, second, third, fourth, avs, prog, next],
-            count: 7,
-        };
+    if between(row.above, p.max, row.below) {
+        let word = supply_word(p, row.volts, row.top);
+        return put(words, at, word);
     }
-    Words {
-        words: [first, second, third, fourth, avs, 0, 0],
-        count: 5,
-    }
+    at
 }
 
-fn words_from_60_w(p: Profile) -> Words
-    requires { ⌜ p .flags ≤ 63 ⌝ }
-    ensures { λ r. ⌜ r ≡ wordsIn p Range.From60W ⌝ }
+// "PPS, only when wanted".
+fn put_supplies(words: &mut [u32; 7], from: usize, p: Profile) -> usize
+    requires { ⌜ Within p × PutDown p (length (baseSlots (p .max .0))) (now words) from ⌝ }
+    ensures { λ r. ⌜ PutDown p (builtCount p) (now (words .exit)) r ⌝ }
 {
-    let first = rail_word(p, 0);
-    let second = rail_word(p, 1);
-    let third = rail_word(p, 2);
-    let fourth = rail_word(p, 3);
-    let avs = avs_word(p, true);
-    if p.pps == 1 {
-        let prog = prog_word(p, 20, 210);
-        return Words {
-            words: [first, second, third, fourth, avs, prog, 0],
-            count: 6,
-        };
+    if p.pps != 1 {
+        return from;
     }
-    Words {
-        words: [first, second, third, fourth, avs, 0, 0],
-        count: 5,
+    let mut at = from;
+    let mut i = 0;
+    while i < 3 {
+        let row = SUPPLIES[i];
+        at = put_supply(words, at, p, row);
+        i += 1;
     }
-}
-
-// The list of each range; PPS only when wanted.
-fn words_in(p: Profile, range: Range) -> Words
-    requires { ⌜ p .flags ≤ 63 ⌝ }
-    ensures { λ r. ⌜ r ≡ wordsIn p range ⌝ }
-{
-    match range {
-        Range::To15W => words_to_15_w(p),
-        Range::To27W => words_to_27_w(p),
-        Range::Below45W => words_below_45_w(p),
-        Range::At45W => words_at_45_w(p),
-        Range::Below60W => words_below_60_w(p),
-        Range::From60W => words_from_60_w(p),
-    }
+    at
 }
 
 fn refuse(number: u8, place: u8) -> Listing
@@ -247,7 +195,15 @@ pub fn build(p: Profile) -> Listing
     if wants_too_much(p) {
         return refuse(verdicts::PPS_BELOW_MAXIMUM, 0);
     }
-    let range = range_of(p.max.0);
-    let list = words_in(p, range);
-    Listing { verdict, list }
+    let mut words = [0u32; 7];
+    let rails = put_rails(&mut words, p);
+    let base = put_avs(&mut words, rails, p);
+    let count = put_supplies(&mut words, base, p);
+    Listing {
+        verdict,
+        list: Words {
+            words,
+            count: count as u8,
+        },
+    }
 }

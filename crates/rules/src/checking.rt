@@ -1,159 +1,256 @@
 // The rule check of a list against a profile.
 ghost use mathlib.Core.Path.{_≡_};
+ghost use mathlib.Core.Bool.{Bool·beq, not};
 ghost use Prim.Native.Nat.{_≤_};
-ghost use Rattle.verdicts.specs.Refusals.{eachPlace, verdictOf};
-ghost use Rattle.rules.specs.Plans.{slots, planOf};
-ghost use Rattle.rules.specs.Building.{SlotWithin};
-ghost use Rattle.rules.specs.Checking.{fitsFixed, fitsAvs, fitsProg, fits, allFit, rightCount, fixedCurrentAllowed, progCurrentAllowed, currentAllowed, currentRows};
+ghost use lib.Dec.{ltb, eqb};
+ghost use lib.ListN.{length};
+ghost use Rattle.verdicts.specs.Refusals.{verdict};
+ghost use Rattle.rules.specs.Profiles.{Within};
+ghost use Rattle.rules.specs.Tables.{Fixed, Avs, Prog, rails, fixedSlots, baseSlots, slots, exceeds, holds};
+ghost use Rattle.rules.specs.Following.{objectAt, stepBy, foundOf, stepIf, followed};
 ghost use Rattle.rules.specs.Promises.{Checks};
-use crate::Plan;
 use crate::Profile;
-use crate::Slot;
+use crate::currents::between;
 use crate::currents::fixed_allowed;
 use crate::currents::prog_allowed;
-use crate::planning::plan;
 use crate::profiles::judge_profile;
+use crate::tables::AVS_ABOVE;
+use crate::tables::AVS_PAST_15_V_ABOVE;
+use crate::tables::BOTTOM;
+use crate::tables::RAILS;
+use crate::tables::Rail;
+use crate::tables::SUPPLIES;
+use crate::tables::Supply;
 use lists::Words;
 use objects::Decoded;
 use objects::Object;
+use steps::Ma10;
+use steps::Mv100;
 use verdicts::Verdict;
 
-fn fits_fixed(volts: u16, o: Object) -> bool
-    requires { ⌜ volts ≤ 20 ⌝ }
-    ensures { λ r. ⌜ r ≡ fitsFixed volts o ⌝ }
-{
-    let Object::Fixed { volts: own, .. } = o else {
-        return false;
-    };
-    own.0 == volts * 20
+// What stands where a row's object has to stand: another object or none, or the right one, with a current that is allowed or not.
+pub enum Found {
+    Other,
+    Allowed,
+    NotAllowed,
 }
 
-fn fits_avs(past_15_v: bool, o: Object) -> bool
-    ensures { λ r. ⌜ r ≡ fitsAvs past_15_v o ⌝ }
-{
-    let Object::Avs { high, .. } = o else {
-        return false;
-    };
-    if past_15_v { high.0 != 0 } else { high.0 == 0 }
+// How far a list has been followed along the tables: the next place, and the first current on the way that is not allowed.
+pub struct Walk {
+    pub at: u8,
+    pub verdict: Verdict,
 }
 
-fn fits_prog(top: u16, o: Object) -> bool
-    ensures { λ r. ⌜ r ≡ fitsProg top o ⌝ }
+// No list has an eighth place: once another object stands where a row's object has to stand, a list is lost for good.
+const LOST: Walk = Walk {
+    at: 8,
+    verdict: Verdict {
+        number: verdicts::SUCCESS,
+        place: 0,
+    },
+};
+
+// The object at a place; past the count there is none.
+fn object_at(list: Words, at: u8) -> Decoded
+    requires { ⌜ list .count ≤ 7 ⌝ }
+    ensures { λ r. ⌜ r ≡ objectAt list at ⌝ }
 {
-    let Object::Pps { max, min, .. } = o else {
-        return false;
-    };
-    if max.0 != top {
-        return false;
+    if at < list.count {
+        let i = at as usize;
+        return objects::decode(list.words[i]);
     }
-    min.0 == 50
+    Decoded::NotAllowed
 }
 
-// Whether an object is what a slot asks for.
-fn fits_slot(slot: Slot, o: Object) -> bool
-    requires { ⌜ SlotWithin slot ⌝ }
-    ensures { λ r. ⌜ r ≡ fits slot o ⌝ }
+// One place further. The first current that is not allowed is kept.
+fn step(walk: Walk, found: Found) -> Walk
+    requires { ⌜ walk .at ≤ 8 ⌝ }
+    ensures { λ r. ⌜ r ≡ stepBy walk found ⌝ }
 {
-    match slot {
-        Slot::Nothing => false,
-        Slot::Fixed { volts } => fits_fixed(volts, o),
-        Slot::Avs { past_15_v } => fits_avs(past_15_v, o),
-        Slot::Prog { volts: _, top } => fits_prog(top, o),
-    }
-}
-
-// Whether each word is what its place in the plan asks for.
-fn all_fit(max: u16, plan: Plan, list: Words) -> bool
-    requires { ⌜ (max ≤ 200) × (plan ≡ planOf max) × (list .count ≤ 7) ⌝ }
-    ensures { λ r. ⌜ r ≡ allFit (slots max) (list .words) (list .count) ⌝ }
-{
-    let count = list.count;
-    let mut i: u8 = 0;
-    while i < count {
-        let at = i as usize;
-        let planned = plan.places[at];
-        let slot = planned.slot;
-        let d = objects::decode(list.words[at]);
-        let Decoded::Known(o) = d else {
-            return false;
-        };
-        if fits_slot(slot, o) {
-            i += 1;
-        } else {
-            return false;
-        }
-    }
-    true
-}
-
-// Without PPS, or with all of it where the port has its maximum.
-fn right_count(p: Profile, plan: Plan, count: u8) -> bool
-    requires { ⌜ (p .max .0 ≤ 200) × (plan ≡ planOf (p .max .0)) ⌝ }
-    ensures { λ r. ⌜ r ≡ rightCount p count ⌝ }
-{
-    if count == plan.base {
-        return true;
-    }
-    if p.present.0 != p.max.0 {
-        return false;
-    }
-    count == plan.count
-}
-
-fn fixed_current_allowed(p: Profile, volts: u16, o: Object) -> bool
-    ensures { λ r. ⌜ r ≡ fixedCurrentAllowed p volts o ⌝ }
-{
-    let Object::Fixed { current, .. } = o else {
-        return true;
-    };
-    fixed_allowed(p, volts, current.0)
-}
-
-fn prog_current_allowed(p: Profile, volts: u16, o: Object) -> bool
-    ensures { λ r. ⌜ r ≡ progCurrentAllowed p volts o ⌝ }
-{
-    let Object::Pps { current, .. } = o else {
-        return true;
-    };
-    prog_allowed(p, volts, current.0)
-}
-
-// Whether the current of an object is allowed at a slot. Those of AVS are the fixed ones, which 17 sees to.
-fn current_allowed(p: Profile, slot: Slot, o: Object) -> bool
-    ensures { λ r. ⌜ r ≡ currentAllowed p slot o ⌝ }
-{
-    match slot {
-        Slot::Nothing => true,
-        Slot::Fixed { volts } => fixed_current_allowed(p, volts, o),
-        Slot::Avs { past_15_v: _ } => true,
-        Slot::Prog { volts, top: _ } => prog_current_allowed(p, volts, o),
-    }
-}
-
-// The first word whose current is not allowed.
-fn judge_currents(p: Profile, plan: Plan, list: Words) -> Verdict
-    requires { ⌜ (p .max .0 ≤ 200) × (plan ≡ planOf (p .max .0)) × (list .count ≤ 7) ⌝ }
-    ensures { λ r. ⌜ r ≡ verdictOf (eachPlace (currentRows p (list .words)) (list .count)) ⌝ }
-{
-    let count = list.count;
-    let mut i: u8 = 0;
-    while i < count {
-        let at = i as usize;
-        let planned = plan.places[at];
-        let slot = planned.slot;
-        let d = objects::decode(list.words[at]);
-        if let Decoded::Known(o) = d {
-            if !current_allowed(p, slot, o) {
-                return Verdict {
+    let at = walk.at + 1;
+    let verdict = walk.verdict;
+    match found {
+        Found::Other => LOST,
+        Found::Allowed => Walk { at, verdict },
+        Found::NotAllowed => {
+            if verdict.number != verdicts::SUCCESS {
+                return Walk { at, verdict };
+            }
+            Walk {
+                at,
+                verdict: Verdict {
                     number: verdicts::CURRENT_NOT_ALLOWED,
-                    place: i + 1,
-                };
+                    place: at,
+                },
             }
         }
+    }
+}
+
+// ---- the fixed part
+
+fn find_rail(p: Profile, volts: u16, d: Decoded) -> Found
+    requires { ⌜ Within p × (volts ≤ 20) ⌝ }
+    ensures { λ r. ⌜ r ≡ foundOf p (Fixed volts) d ⌝ }
+{
+    let Decoded::Known(o) = d else {
+        return Found::Other;
+    };
+    let Object::Fixed {
+        volts: own,
+        current,
+        ..
+    } = o
+    else {
+        return Found::Other;
+    };
+    if own.0 != volts * 20 {
+        return Found::Other;
+    }
+    if fixed_allowed(p, volts, current) {
+        return Found::Allowed;
+    }
+    Found::NotAllowed
+}
+
+// One place further, where M exceeds the row.
+fn follow_rail(p: Profile, list: Words, row: Rail, walk: Walk) -> Walk
+    requires { ⌜ Within p × (list .count ≤ 7) × (row .volts ≤ 20) × (walk .at ≤ 8) ⌝ }
+    ensures { λ r. ⌜ r ≡ stepIf (exceeds (p .max .0) row) p list (Fixed (row .volts)) walk ⌝ }
+{
+    if p.max.0 <= row.above.0 {
+        return walk;
+    }
+    let d = object_at(list, walk.at);
+    let found = find_rail(p, row.volts, d);
+    step(walk, found)
+}
+
+fn follow_rails(p: Profile, list: Words) -> Walk
+    requires { ⌜ Within p × (list .count ≤ 7) ⌝ }
+    ensures { λ r. ⌜ r ≡ followed p list (length (fixedSlots (p .max .0) rails)) ⌝ }
+{
+    let mut walk = Walk {
+        at: 0,
+        verdict: Verdict {
+            number: verdicts::SUCCESS,
+            place: 0,
+        },
+    };
+    let mut i = 0;
+    while i < 4 {
+        let row = RAILS[i];
+        walk = follow_rail(p, list, row, walk);
         i += 1;
     }
+    walk
+}
+
+// ---- AVS
+
+// "its second current is 0 when M ≤ 90", and only then.
+fn ends_right(p: Profile, high: Ma10) -> bool
+    ensures { λ r. ⌜ r ≡ Bool·beq (ltb 90 (p .max .0)) (not (eqb (high .0) 0)) ⌝ }
+{
+    if AVS_PAST_15_V_ABOVE.0 < p.max.0 {
+        high.0 != 0
+    } else {
+        high.0 == 0
+    }
+}
+
+// Its currents are those of fixed objects, which 17 sees to.
+fn find_avs(p: Profile, d: Decoded) -> Found
+    ensures { λ r. ⌜ r ≡ foundOf p (Avs (ltb 90 (p .max .0))) d ⌝ }
+{
+    let Decoded::Known(o) = d else {
+        return Found::Other;
+    };
+    let Object::Avs { high, .. } = o else {
+        return Found::Other;
+    };
+    if ends_right(p, high) {
+        return Found::Allowed;
+    }
+    Found::Other
+}
+
+fn follow_avs(p: Profile, list: Words, walk: Walk) -> Walk
+    requires { ⌜ (list .count ≤ 7) × (walk .at ≤ 8) ⌝ }
+    ensures { λ r. ⌜ r ≡ stepIf (ltb 54 (p .max .0)) p list (Avs (ltb 90 (p .max .0))) walk ⌝ }
+{
+    if p.max.0 <= AVS_ABOVE.0 {
+        return walk;
+    }
+    let d = object_at(list, walk.at);
+    let found = find_avs(p, d);
+    step(walk, found)
+}
+
+// ---- programmable supplies
+
+fn find_supply(p: Profile, volts: u16, top: Mv100, d: Decoded) -> Found
+    requires { ⌜ Within p ⌝ }
+    ensures { λ r. ⌜ r ≡ foundOf p (Prog volts (top .0)) d ⌝ }
+{
+    let Decoded::Known(o) = d else {
+        return Found::Other;
+    };
+    let Object::Pps {
+        max,
+        min,
+        current,
+        ..
+    } = o
+    else {
+        return Found::Other;
+    };
+    if max.0 != top.0 {
+        return Found::Other;
+    }
+    if min.0 != BOTTOM.0 {
+        return Found::Other;
+    }
+    if prog_allowed(p, volts, current) {
+        return Found::Allowed;
+    }
+    Found::NotAllowed
+}
+
+// One place further, where the row holds M.
+fn follow_supply(p: Profile, list: Words, row: Supply, walk: Walk) -> Walk
+    requires { ⌜ Within p × (list .count ≤ 7) × (walk .at ≤ 8) ⌝ }
+    ensures { λ r. ⌜ r ≡ stepIf (holds (p .max .0) row) p list (Prog (row .volts) (row .top .0)) walk ⌝ }
+{
+    if between(row.above, p.max, row.below) {
+        let d = object_at(list, walk.at);
+        let found = find_supply(p, row.volts, row.top, d);
+        return step(walk, found);
+    }
+    walk
+}
+
+fn follow_supplies(p: Profile, list: Words, from: Walk) -> Walk
+    requires { ⌜ Within p × (list .count ≤ 7) × (from ≡ followed p list (length (baseSlots (p .max .0)))) ⌝ }
+    ensures { λ r. ⌜ r ≡ followed p list (length (slots (p .max .0))) ⌝ }
+{
+    let mut walk = from;
+    let mut i = 0;
+    while i < 3 {
+        let row = SUPPLIES[i];
+        walk = follow_supply(p, list, row, walk);
+        i += 1;
+    }
+    walk
+}
+
+// ---- the check
+
+fn wrong_set() -> Verdict
+    ensures { λ r. ⌜ r ≡ verdict 18 0 ⌝ }
+{
     Verdict {
-        number: verdicts::SUCCESS,
+        number: verdicts::WRONG_SET,
         place: 0,
     }
 }
@@ -170,14 +267,17 @@ pub fn check(p: Profile, list: Words) -> Verdict
     if shape.number != verdicts::SUCCESS {
         return shape;
     }
-    let plan = plan(p.max.0);
-    if right_count(p, plan, list.count) {
-        if all_fit(p.max.0, plan, list) {
-            return judge_currents(p, plan, list);
-        }
+    let rails = follow_rails(p, list);
+    let base = follow_avs(p, list, rails);
+    if base.at == list.count {
+        return base.verdict;
     }
-    Verdict {
-        number: verdicts::WRONG_SET,
-        place: 0,
+    if p.present.0 < p.max.0 {
+        return wrong_set();
     }
+    let full = follow_supplies(p, list, base);
+    if full.at == list.count {
+        return full.verdict;
+    }
+    wrong_set()
 }

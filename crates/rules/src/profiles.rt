@@ -1,12 +1,28 @@
 // The profile of a port: its refusals, and the default from the port maximum alone.
 ghost use mathlib.Core.Path.{_≡_};
+ghost use mathlib.Core.Bool.{not};
 ghost use Rattle.verdicts.specs.Refusals.{verdictOf};
+ghost use Rattle.steps.specs.Ranges.{within};
 ghost use Rattle.rules.specs.Profiles.{badCable, profileRows, profileRefusals, profileRefused};
 ghost use Rattle.rules.specs.Promises.{Defaults};
 use crate::Profile;
 use crate::Profiled;
 use steps::HalfWatts;
 use verdicts::Verdict;
+
+// The bounds of a port maximum (1), and the low end of the present power (2).
+const LEAST: HalfWatts = HalfWatts(1);
+
+const GREATEST: HalfWatts = HalfWatts(200);
+
+fn outside(low: HalfWatts, power: HalfWatts, high: HalfWatts) -> bool
+    ensures { λ r. ⌜ r ≡ not (within (low .0) (high .0) (power .0)) ⌝ }
+{
+    if power.0 < low.0 {
+        return true;
+    }
+    high.0 < power.0
+}
 
 fn no_profile(number: u8) -> Profiled
     ensures { λ r. ⌜ r ≡ profileRefused number 0 ⌝ }
@@ -28,10 +44,7 @@ fn no_profile(number: u8) -> Profiled
 pub fn default_profile(max: HalfWatts) -> Profiled
     ensures { λ r. ⌜ Defaults max r ⌝ }
 {
-    if max.0 < 1 {
-        return no_profile(verdicts::PORT_MAXIMUM);
-    }
-    if 200 < max.0 {
+    if outside(LEAST, max, GREATEST) {
         return no_profile(verdicts::PORT_MAXIMUM);
     }
     Profiled {
@@ -54,7 +67,7 @@ pub fn default_profile(max: HalfWatts) -> Profiled
 pub fn judge_profile(p: Profile) -> Verdict
     ensures { λ r. ⌜ r ≡ verdictOf (profileRefusals p) ⌝ }
 {
-    let number = profile_fault(p.max.0, p.present.0, p.cable, p.rounding, p.pps, p.flags);
+    let number = profile_fault(p.max, p.present, p.cable, p.rounding, p.pps, p.flags);
     Verdict { number, place: 0 }
 }
 
@@ -67,19 +80,20 @@ fn bad_cable(amperes: u8) -> bool
     amperes != 5
 }
 
-fn profile_fault(max: u16, present: u16, cable: u8, rounding: u8, pps: u8, flags: u8) -> u8
-    ensures { λ r. ⌜ r ≡ verdictOf (profileRows max present cable rounding pps flags) .number ⌝ }
+fn profile_fault(
+    max: HalfWatts,
+    present: HalfWatts,
+    cable: u8,
+    rounding: u8,
+    pps: u8,
+    flags: u8,
+) -> u8
+    ensures { λ r. ⌜ r ≡ verdictOf (profileRows (max .0) (present .0) cable rounding pps flags) .number ⌝ }
 {
-    if max < 1 {
+    if outside(LEAST, max, GREATEST) {
         return verdicts::PORT_MAXIMUM;
     }
-    if 200 < max {
-        return verdicts::PORT_MAXIMUM;
-    }
-    if present < 1 {
-        return verdicts::PRESENT_POWER;
-    }
-    if max < present {
+    if outside(LEAST, present, max) {
         return verdicts::PRESENT_POWER;
     }
     if bad_cable(cable) {

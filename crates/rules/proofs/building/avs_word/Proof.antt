@@ -1,12 +1,12 @@
 -- `rules::building::avs_word` meets its contract: the word of the AVS object.
 -- Assumes nothing.
-use borrow.Author.Needs.{needs}
-use mathlib.Core.Path.{_≡_, refl, ap, ap₂, sym, _∙_}
+use mathlib.Core.Path.{ap, ap₂, _∙_}
 use Prim.Native.Nat.{ℕ}
 use Rattle.objects.specs.declared.Object.the-variants as object
 use Rattle.objects.specs.Encode.{encodeOf}
 use Rattle.lists.specs.Writing.{wordIn}
 use Rattle.rules.specs.Building.{objectFor}
+use borrow.Author.Needs.{needs}
 use Rattle.rules.proofs.building.avs_word.Statement.{statement}
 use Rattle.rules.proofs.building.avs_word.Tie as tie
 
@@ -31,4 +31,11 @@ returns c =
     (c .before .before .before .built-current .ensures) (c .before .before .second-current .ensures))
 
 pub avs-word-spec : {M : Type 1} → statement M
-avs-word-spec = tie.close (tie.spec built-current-requires second-current-requires avs-word-requires word-in-requires returns)
+avs-word-spec =
+    tie.close
+    (tie.spec
+    built-current-requires
+    second-current-requires
+    avs-word-requires
+    word-in-requires
+    returns)

@@ -1,17 +1,19 @@
--- `rules::build` meets its contract: each return cites the law of its case.
+-- `rules::building::build` meets its contract: each return cites the law of its case.
 -- Assumes nothing.
-use mathlib.Core.Path.{_≡_, refl, ap, ap₂, sym, _∙_}
+use mathlib.Core.Path.{refl, ap, ap₂, sym, _∙_}
 use Prim.Native.Nat.{ℕ}
+use native.Mathlib.Omega.{arith}
+use mathlib.Core.List.{List}
 use Rattle.verdicts.specs.declared.Verdict.{Verdict}
-use Rattle.verdicts.specs.Refusals.{success, verdictOf}
 use Rattle.verdicts.proofs.First.{NoneApply, none-applied, passes}
 use Rattle.lists.specs.declared.Words.{Words}
 use Rattle.lists.specs.declared.Listing.{Listing}
 use Rattle.lists.specs.Writing.{writeRefused}
 use Rattle.rules.specs.Profiles.{profileRefusals}
-use Rattle.rules.proofs.ProfileCases.{profile-numbered, max-low, flags-high}
-use Rattle.rules.proofs.Builds.{build-refused, build-6, build-done}
-use Rattle.rules.proofs.RangeFacts.{words-held}
+use Rattle.rules.proofs.ProfileCases.{profile-numbered, max-high, within-bounds}
+use Rattle.rules.proofs.TableWalk.{avs-stands}
+use Rattle.rules.proofs.PutDown.{avs-put, room}
+use Rattle.rules.proofs.Builds.{build-refused, build-6, build-done, built-count-high}
 use borrow.Author.Needs.{needs}
 use Rattle.rules.proofs.building.build.Statement.{statement}
 use Rattle.rules.proofs.building.build.Tie as tie
@@ -21,6 +23,9 @@ number v = v .number
 
 abbrev given : Verdict → Words → Listing
 given v l = record { verdict = v; list = l }
+
+abbrev listed : List ℕ → ℕ → Words
+listed ws n = record { words = ws; count = n }
 
 -- past the profile, none of its refusals applies
 clear : (c : tie.Else1) → NoneApply (profileRefusals (c .before .before .before .args .p))
@@ -52,20 +57,38 @@ returns-2 c =
     c .refuse2 .ensures ∙ sym (build-6 _ (clear (c .before .before .before)) (sym (c .before .before .wants-too-much .ensures)
     ∙ c .before .if2 .taken))
 
-range-of-requires : tie.Need-range-of-requires
-range-of-requires c κs = max-low (c .before .before .before .before .before .args .p) (clear (c .before .before))
+put-rails-requires : tie.Need-put-rails-requires
+put-rails-requires c κs = (within-bounds _ (clear (c .before .before .before)), refl)
 
-words-in-requires : tie.Need-words-in-requires
-words-in-requires c κs = flags-high (c .before .before .before .before .before .before .args .p) (clear (c .before .before .before))
+put-avs-requires : tie.Need-put-avs-requires
+put-avs-requires c κs =
+    let n = c .before .before .before .before .before in
+    let p = n .before .before .before .args .p in
+    (within-bounds p (clear n), λ t. room p (max-high p (clear n)) _ _ _ (c .before .put-rails .ensures .place) (avs-stands (p .max .0) t))
+
+put-supplies-requires : tie.Need-put-supplies-requires
+put-supplies-requires c κs =
+    let r = c .before .before .before in
+    let n = r .before .before .before .before in
+    let p = n .before .before .before .args .p in
+    (within-bounds p (clear n), avs-put p (max-high p (clear n)) (r .put-rails .ensures) (c .before .put-avs .ensures))
+
+cast-t13 : tie.Need-cast-t13
+cast-t13 c =
+    let n = c .before .before .before .before .before .before .before .before in
+    let p = n .before .before .before .args .p in
+    record { fits = omega (arith, c .put-supplies .ensures .place, built-count-high p (max-high p (clear n))) }
 
 returns-3 : tie.Need-returns-3
 returns-3 c =
-    let p = c .before .before .before .before .before .before .before .args .p in
-    let x = clear (c .before .before .before .before) in
-    let e = c .before .before .before .before .before .before .judge-profile .ensures in
-    ap₂ given (e ∙ passes (profileRefusals p) (profile-numbered p) (sym (ap number e) ∙ c .before .before .before .before .if1 .left))
-    (c .words-in .ensures ∙ words-held p _ (c .before .range-of .ensures))
-    ∙ sym (build-done p x (sym (c .before .before .before .wants-too-much .ensures) ∙ c .before .before .if2 .left))
+    let f = c .before .before .before .before .before .before in
+    let w = f .before in
+    let n = w .before in
+    let p = n .before .before .before .args .p in
+    let e = n .before .before .judge-profile .ensures in
+    ap₂ given (e ∙ passes (profileRefusals p) (profile-numbered p) (sym (ap number e) ∙ n .if1 .left))
+    (ap₂ listed (c .put-supplies .ensures .words) (c .put-supplies .ensures .place))
+    ∙ sym (build-done p (clear n) (sym (w .wants-too-much .ensures) ∙ f .if2 .left))
 
 pub build-spec : {M : Type 1} → statement M
 build-spec =
@@ -77,6 +100,8 @@ build-spec =
     wants-too-much-requires
     refuse-requires-2
     returns-2
-    range-of-requires
-    words-in-requires
+    put-rails-requires
+    put-avs-requires
+    put-supplies-requires
+    cast-t13
     returns-3)

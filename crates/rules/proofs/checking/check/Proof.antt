@@ -1,15 +1,21 @@
--- `rules::check` meets its contract: each return cites the law of its case.
+-- `rules::checking::check` meets its contract: each return cites the law of its case.
 -- Assumes nothing.
-use mathlib.Core.Path.{_≡_, refl, ap, ap₂, sym, _∙_}
-use mathlib.Core.Path.{subst}
+use mathlib.Core.Path.{_≡_, ap, sym, _∙_, subst}
 use Prim.Native.Nat.{ℕ, _≤_}
 use Rattle.verdicts.specs.declared.Verdict.{Verdict}
 use Rattle.verdicts.proofs.First.{NoneApply, none-applied}
 use Rattle.lists.specs.Shape.{shapeRefusals}
 use Rattle.lists.proofs.Shapes.{none-of, count-high}
+use Rattle.rules.specs.declared.checking.Walk.{Walk}
 use Rattle.rules.specs.Profiles.{profileRefusals}
-use Rattle.rules.proofs.ProfileCases.{profile-numbered, max-high, max-low}
-use Rattle.rules.proofs.Checks.{bad-profile, bad-shape, bad-set, by-currents, wrong-count, wrong-kind, right-set}
+use Rattle.rules.specs.Tables.{baseSlots}
+use Rattle.rules.specs.Following.{followed}
+use Rattle.rules.proofs.ProfileCases.{profile-numbered, within-bounds}
+use Rattle.rules.proofs.Checks.{bad-profile, bad-shape}
+use Rattle.rules.proofs.WalkDecides.{without-pps, with-pps, wrong-below, wrong-both}
+use Rattle.rules.proofs.Steps.{avs-followed}
+use Rattle.rules.proofs.Followed.{at-most-8}
+use lib.ListN.{length}
 use borrow.Author.Needs.{needs}
 use Rattle.rules.proofs.checking.check.Statement.{statement}
 use Rattle.rules.proofs.checking.check.Tie as tie
@@ -26,6 +32,15 @@ clear c =
 shaped : (c : tie.Else2) → NoneApply (shapeRefusals (c .before .before .before .before .before .before .args .list))
 shaped c = none-of _ (sym (ap number (c .before .before .shape .ensures)) ∙ c .if2 .left)
 
+abbrev start : tie.After-follow-avs → tie.Start
+start c = c .before .before .before .before .before .before .before .before
+
+-- without PPS
+based : (c : tie.After-follow-avs) → c .follow-avs .result ≡ followed (start c .args .p) (start c .args .list) (length (baseSlots (start c .args .p .max .0)))
+based c =
+    let x = start c .args in
+    c .follow-avs .ensures ∙ avs-followed (x .p) (x .list) _ (c .before .follow-rails .ensures)
+
 judge-profile-requires : tie.Need-judge-profile-requires
 judge-profile-requires c κs = search needs
 
@@ -40,55 +55,76 @@ shape-requires c κs = search needs
 returns-2 : tie.Need-returns-2
 returns-2 c =
     let e = c .before .before .shape .ensures in
-    e ∙ sym (bad-shape (c .before .before .before .before .before .before .args .p) (c .before .before .before .before .before .before .args .list)
-    (clear (c .before .before .before)) (λ z. c .if2 .taken (ap number e ∙ z)))
+    let n = c .before .before .before in
+    let x = n .before .before .before .args in
+    e ∙ sym (bad-shape (x .p) (x .list) (clear n) (λ z. c .if2 .taken (ap number e ∙ z)))
 
-plan-requires : tie.Need-plan-requires
-plan-requires c κs = max-low (c .before .before .before .before .before .before .args .p) (clear (c .before .before .before))
+follow-rails-requires : tie.Need-follow-rails-requires
+follow-rails-requires c κs =
+    let n = c .before .before .before in
+    (within-bounds (n .before .before .before .args .p) (clear n), count-high _ (shaped c .0))
 
-right-count-requires : tie.Need-right-count-requires
-right-count-requires c κs =
-    (max-high (c .before .before .before .before .before .before .before .args .p) (clear (c .before .before .before .before)), c .plan .ensures)
-
-all-fit-requires : tie.Need-all-fit-requires
-all-fit-requires c κs = (
-  max-high (c .before .before .before .before .before .before .before .before .before .args .p)
-      (clear (c .before .before .before .before .before .before)),
-  c .before .before .plan .ensures,
-  count-high
-      (c .before .before .before .before .before .before .before .before .before .args .list .count) (shaped (c .before .before .before) .0),
-)
-
-judge-currents-requires : tie.Need-judge-currents-requires
-judge-currents-requires c κs = (
-  max-high (c .before .before .before .before .before .before .before .before .before .before .before .args .p)
-      (clear (c .before .before .before .before .before .before .before .before)),
-  c .before .before .before .before .plan .ensures,
-  count-high
-      (c .before .before .before .before .before .before .before .before .before .before .before .args .list .count)
-      (shaped (c .before .before .before .before .before) .0),
-)
+follow-avs-requires : tie.Need-follow-avs-requires
+follow-avs-requires c κs =
+    let s = c .before in
+    let x = s .before .before .before .before .before .before .args in
+    let seven = count-high _ (shaped s .0) in
+    (seven, subst (λ (w : Walk). w .at ≤ 8) (sym (c .follow-rails .ensures)) (at-most-8 (x .p) (x .list) seven _))
 
 returns-3 : tie.Need-returns-3
 returns-3 c =
-    let x = c .before .before .before .before .before .before .before .before .before .before .before .before .args in
-    c .judge-currents .ensures
-    ∙ sym (by-currents (x .p) (x .list) (clear (c .before .before .before .before .before .before .before .before .before))
-    (shaped (c .before .before .before .before .before .before))
-    (right-set (x .p) (x .list) (sym (c .before .before .before .before .right-count .ensures) ∙ c .before .before .before .if3 .taken)
-    (sym (c .before .before .all-fit .ensures) ∙ c .before .if4 .taken)))
+    let b = c .before .before .before .before in
+    let s = b .before .before in
+    let n = s .before .before .before in
+    let x = n .before .before .before .args in
+    ap (λ (w : Walk). w .verdict) (based b)
+    ∙ without-pps (x .p) (x .list) (clear n) (shaped s) (sym (ap (λ (w : Walk). w .at) (based b)) ∙ c .before .if3 .taken)
+
+wrong-set-requires : tie.Need-wrong-set-requires
+wrong-set-requires c κs = search needs
 
 returns-4 : tie.Need-returns-4
 returns-4 c =
-    let x = c .before .before .before .before .before .before .before .before .before .before .before .args in
-    sym (bad-set (x .p) (x .list) (clear (c .before .before .before .before .before .before .before .before))
-    (shaped (c .before .before .before .before .before)) (wrong-kind (x .p) (x .list) (sym (c .before .all-fit .ensures) ∙ c .if4 .left)))
+    let e = c .before .before .before in
+    let b = e .before .before .before in
+    let s = b .before .before in
+    let n = s .before .before .before in
+    let x = n .before .before .before .args in
+    c .wrong-set .ensures ∙ wrong-below (x .p) (x .list) (clear n) (shaped s) (λ z. e .if3 .left (ap (λ (w : Walk). w .at) (based b) ∙ z)) (c .before .if4 .taken)
+
+follow-supplies-requires : tie.Need-follow-supplies-requires
+follow-supplies-requires c κs =
+    let b = c .before .before .before .before .before in
+    let s = b .before .before in
+    let n = s .before .before .before in
+    (within-bounds (n .before .before .before .args .p) (clear n), count-high _ (shaped s .0), based b)
 
 returns-5 : tie.Need-returns-5
 returns-5 c =
-    let x = c .before .before .before .before .before .before .before .before .before .args in
-    sym (bad-set (x .p) (x .list) (clear (c .before .before .before .before .before .before)) (shaped (c .before .before .before))
-    (wrong-count (x .p) (x .list) (sym (c .before .right-count .ensures) ∙ c .if3 .left)))
+    let f = c .before .before .before .before in
+    let u = f .before in
+    let b = u .before .before .before .before .before in
+    let s = b .before .before in
+    let n = s .before .before .before in
+    let x = n .before .before .before .args in
+    ap (λ (w : Walk). w .verdict) (f .follow-supplies .ensures)
+    ∙ with-pps (x .p) (x .list) (clear n) (shaped s) (u .if4 .left) (sym (ap (λ (w : Walk). w .at) (f .follow-supplies .ensures)) ∙ c .before .if5 .taken)
+
+wrong-set-requires-2 : tie.Need-wrong-set-requires-2
+wrong-set-requires-2 c κs = search needs
+
+returns-6 : tie.Need-returns-6
+returns-6 c =
+    let g = c .before in
+    let f = g .before .before .before in
+    let e = f .before .before .before in
+    let b = e .before .before .before in
+    let s = b .before .before in
+    let n = s .before .before .before in
+    let x = n .before .before .before .args in
+    c .wrong-set2 .ensures
+    ∙ wrong-both (x .p) (x .list) (clear n) (shaped s) (λ z. e .if3 .left (ap (λ (w : Walk). w .at) (based b) ∙ z))
+    (λ z. g .if5 .left (ap (λ (w : Walk). w .at) (f .follow-supplies .ensures) ∙ z))
 
 pub check-spec : {M : Type 1} → statement M
 check-spec =
@@ -98,10 +134,12 @@ check-spec =
     returns
     shape-requires
     returns-2
-    plan-requires
-    right-count-requires
-    all-fit-requires
-    judge-currents-requires
+    follow-rails-requires
+    follow-avs-requires
     returns-3
+    wrong-set-requires
     returns-4
-    returns-5)
+    follow-supplies-requires
+    returns-5
+    wrong-set-requires-2
+    returns-6)

@@ -1,11 +1,9 @@
 -- `rules::profiles::bad_cable` meets its contract: 3 A or 5 A.
 -- Assumes nothing.
-use mathlib.Core.Path.{_≡_, refl, ap, ap₂, sym, _∙_}
-use mathlib.Core.Bool.{Bool, true, false, not, _&&_, _||_, cond}
-use borrow.Author.Tests.{lt-ltb, le-ltb, le-leb, lt-leb, eq-eqb, ne-eqb}
-use Prim.Native.Nat.{ℕ, _*_, _≤_, _<_, min}
-use native.Mathlib.Omega.{arith}
-use lib.Dec.{leb, ltb, eqb}
+use mathlib.Core.Path.{ap, sym}
+use mathlib.Core.Bool.{Bool, not, _||_}
+use borrow.Author.Tests.{eq-eqb, ne-eqb}
+use lib.Dec.{eqb}
 use Rattle.rules.proofs.profiles.bad_cable.Statement.{statement}
 use Rattle.rules.proofs.profiles.bad_cable.Tie as tie
 

@@ -1,16 +1,8 @@
 -- `rules::profiles::judge_profile` meets its contract: every refusal of a profile has place 0.
 -- Assumes nothing.
-use mathlib.Core.Path.{_≡_, refl, ap, ap₂, sym, _∙_}
-use mathlib.Core.Bool.{Bool, true, false, not, _&&_, _||_, cond}
-use borrow.Author.Tests.{lt-ltb, le-ltb, le-leb, lt-leb, eq-eqb, ne-eqb}
-use Prim.Native.Nat.{ℕ, _*_, _≤_, _<_, min}
-use native.Mathlib.Omega.{arith}
-use lib.Dec.{leb, ltb, eqb}
-use mathlib.Core.List.{List, [], _∷_}
-use Rattle.verdicts.specs.declared.Verdict.{Verdict}
-use Rattle.verdicts.specs.Refusals.{Refusal, verdict, success, verdictOf}
-use Rattle.verdicts.proofs.First.{hit, miss}
-use Rattle.rules.specs.Profiles.{profileRefusals}
+use mathlib.Core.Path.{ap, sym, _∙_}
+use Prim.Native.Nat.{ℕ}
+use Rattle.verdicts.specs.Refusals.{verdict}
 use Rattle.rules.proofs.ProfileCases.{place-0}
 use borrow.Author.Needs.{needs}
 use Rattle.rules.proofs.profiles.judge_profile.Statement.{statement}

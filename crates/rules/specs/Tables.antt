@@ -1,0 +1,65 @@
+-- Which objects a port's list has, by its maximum M alone (01, "Power rules"; 004, tables 10-2, 10-7 and 10-8).
+-- Assumes nothing.
+use mathlib.Core.Bool.{Bool, true, false, _&&_}
+use mathlib.Core.List.{List, [], _∷_, _++_}
+use Prim.Native.Nat.{ℕ}
+use lib.Dec.{ltb}
+use Rattle.rules.specs.declared.tables.Rail.{Rail}
+use Rattle.rules.specs.declared.tables.Supply.{Supply}
+
+-- what stands at a place of a port's list. A programmable supply has the volts of its name and the top of its range in 100 mV
+pub data Slot : Type 0 where
+  Nothing : Slot
+  Fixed : ℕ → Slot
+  Avs : Bool → Slot
+  Prog : ℕ → ℕ → Slot
+
+-- a slot that is there or not
+abbrev pub slotIf : Bool → Slot → List Slot
+slotIf true s = s ∷ []
+slotIf false s = []
+
+-- "a fixed table of four rows: voltage and the M it must exceed"
+abbrev pub row : ℕ → ℕ → Rail
+row volts above = record { volts = volts; above = record { 0 = above } }
+
+abbrev pub rails : List Rail
+rails = row 5 0 ∷ row 9 30 ∷ row 15 54 ∷ row 20 90 ∷ []
+
+-- the rows that M exceeds
+abbrev pub fixedSlots : ℕ → List Rail → List Slot
+fixedSlots m [] = []
+fixedSlots m (r ∷ rs) = slotIf (ltb (r .above .0) m) (Fixed (r .volts)) ++ fixedSlots m rs
+
+-- "AVS is present exactly when M > 54; its second current is 0 when M ≤ 90."
+abbrev pub avsSlots : ℕ → List Slot
+avsSlots m = slotIf (ltb 54 m) (Avs (ltb 90 m))
+
+unfoldable pub baseSlots : ℕ → List Slot
+baseSlots m = fixedSlots m rails ++ avsSlots m
+
+-- "9 V Prog (5 to 11 V) when 30 < M < 90; 15 V Prog (5 to 16 V) when 54 < M < 120; 20 V Prog (5 to 21 V) when M > 90."
+unfoldable pub progSlots : ℕ → List Slot
+progSlots m =
+    slotIf (ltb 30 m && ltb m 90) (Prog 9 110) ++ slotIf (ltb 54 m && ltb m 120) (Prog 15 160) ++ slotIf (ltb 90 m) (Prog 20 210)
+
+-- the full list of a port
+abbrev pub slots : ℕ → List Slot
+slots m = baseSlots m ++ progSlots m
+
+-- ---- as the code goes through the tables
+
+-- a programmable supply with the M it must exceed and the M it must stay below. No port reaches 201. That these rows are those of
+-- `progSlots` is proved in proofs/TableWalk
+abbrev pub supply : ℕ → ℕ → ℕ → ℕ → Supply
+supply volts top above below = record { volts = volts; top = record { 0 = top }; above = record { 0 = above }; below = record { 0 = below } }
+
+abbrev pub supplies : List Supply
+supplies = supply 9 110 30 90 ∷ supply 15 160 54 120 ∷ supply 20 210 90 201 ∷ []
+
+-- whether M takes a row
+abbrev pub exceeds : ℕ → Rail → Bool
+exceeds m r = ltb (r .above .0) m
+
+abbrev pub holds : ℕ → Supply → Bool
+holds m r = ltb (r .above .0) m && ltb m (r .below .0)
