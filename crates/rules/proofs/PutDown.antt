@@ -11,10 +11,10 @@ use borrow.Author.Tests.{ltb-true, ltb-false}
 use Rattle.lists.specs.Seven.{sevenTo}
 use Rattle.lists.proofs.Sevens.{none-filled, one-filled}
 use Rattle.rules.specs.declared.Profile.{Profile}
-use Rattle.rules.specs.Tables.{Slot, Nothing, Fixed, Avs, Prog, row, rails, supply, supplies, holds, baseSlots, slots}
+use Rattle.rules.specs.Tables.{Slot, Nothing, Fixed, Avs, Prog, row, rails, holds, baseSlots, slots}
 use Rattle.rules.specs.Building.{objectFor, slotWord, wordFor, PutIf, PutDown}
 use Rattle.rules.proofs.EachMaximum.{at-most-seven}
-use Rattle.rules.proofs.TableWalk.{Stands, railsTo, rail-stands, rail-on, rail-skipped, afterRails, avs-stands, avs-on, avs-skipped, suppliesTo, supply-stands, supply-on, supply-skipped}
+use Rattle.rules.proofs.TableWalk.{Stands, railsTo, rail-stands, rail-on, rail-skipped, afterRails, avs-stands, avs-on, avs-skipped, supply, supplies, suppliesTo, supply-stands, supply-on, supply-skipped}
 
 pub none-put : (p : Profile) (ws : List ℕ) → ws ≡ replicate 7 0 → PutDown p 0 ws 0
 none-put p ws e = record { place = refl; words = e ∙ none-filled (wordFor p) 0 }

@@ -26,11 +26,11 @@ use Rattle.rules.specs.declared.checking.Found.{Found}
 use Rattle.rules.specs.declared.checking.Found.the-variants.{Other, Allowed}
 use Rattle.rules.specs.declared.checking.Found.the-variants as found
 use Rattle.rules.specs.declared.checking.Walk.{Walk}
-use Rattle.rules.specs.Tables.{Slot, Nothing, Fixed, Avs, Prog, row, rails, supply, supplies, holds, baseSlots, slots}
+use Rattle.rules.specs.Tables.{Slot, Nothing, Fixed, Avs, Prog, row, rails, holds, baseSlots, slots}
 use Rattle.rules.specs.Sets.{fits}
 use Rattle.rules.specs.Checking.{currentRefused}
 use Rattle.rules.specs.Following.{walk, lost, objectAt, foundOf, stepBy, stepOf, stepIf, followed}
-use Rattle.rules.proofs.TableWalk.{Stands, railsTo, rail-stands, rail-on, rail-skipped, afterRails, avs-stands, avs-on, avs-skipped, suppliesTo, supply-stands, supply-on, supply-skipped}
+use Rattle.rules.proofs.TableWalk.{Stands, railsTo, rail-stands, rail-on, rail-skipped, afterRails, avs-stands, avs-on, avs-skipped, supply, supplies, suppliesTo, supply-stands, supply-on, supply-skipped}
 
 -- ---- the object at a place
 

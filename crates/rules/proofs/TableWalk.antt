@@ -11,7 +11,7 @@ use lib.ListN.{length, getD, take, drop, length-append}
 use borrow.Author.Tests.{lt-ltb, le-ltb}
 use Rattle.rules.specs.declared.tables.Rail.{Rail}
 use Rattle.rules.specs.declared.tables.Supply.{Supply}
-use Rattle.rules.specs.Tables.{Slot, Nothing, Fixed, Avs, Prog, slotIf, row, rails, fixedSlots, avsSlots, baseSlots, supply, supplies, holds, progSlots, slots}
+use Rattle.rules.specs.Tables.{Slot, Nothing, Fixed, Avs, Prog, slotIf, row, rails, exceeds, fixedSlots, avsSlots, baseSlots, progSlots, slots, holds}
 
 -- the slots that the rows of a table choose
 abbrev pub chosen : {A : Type 0} → (A → List Slot) → List A → List Slot
@@ -74,7 +74,7 @@ module _ {A : Type 0} (f : A → List Slot) (blank : A) (table : List A) (before
 -- ---- the fixed part
 
 abbrev pub railSlots : ℕ → Rail → List Slot
-railSlots m r = slotIf (ltb (r .above .0) m) (Fixed (r .volts))
+railSlots m r = slotIf (exceeds m r) (Fixed (r .volts))
 
 -- the place after the first i rows
 abbrev pub railsTo : ℕ → ℕ → ℕ
@@ -151,6 +151,13 @@ module _ (m : ℕ) where
 
 -- ---- programmable supplies, after the base
 
+-- the rows as the code has them: the M that each must exceed, and the M that it must stay below
+abbrev pub supply : ℕ → ℕ → ℕ → ℕ → Supply
+supply volts top above below = record { volts = volts; top = record { 0 = top }; above = record { 0 = above }; below = record { 0 = below } }
+
+abbrev pub supplies : List Supply
+supplies = supply 9 110 30 90 ∷ supply 15 160 54 120 ∷ supply 20 210 90 201 ∷ []
+
 abbrev pub supplySlots : ℕ → Supply → List Slot
 supplySlots m r = slotIf (holds m r) (Prog (r .volts) (r .top .0))
 
@@ -162,7 +169,7 @@ whole : (b : Bool) (s : Slot) → slotIf (b && true) s ++ [] ≡ slotIf b s
 whole true s = refl
 whole false s = refl
 
--- "20 V Prog (5 to 21 V) when M > 90": no M is above 200
+-- these rows are those of `progSlots`. "20 V Prog (5 to 21 V) when M > 90": no M is above 200, so none reaches 201
 supplies-are : (m : ℕ) → m ≤ 200 → chosen (supplySlots m) supplies ≡ progSlots m
 unfolding progSlots
 supplies-are m h =

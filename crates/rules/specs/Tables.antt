@@ -26,10 +26,13 @@ row volts above = record { volts = volts; above = record { 0 = above } }
 abbrev pub rails : List Rail
 rails = row 5 0 ∷ row 9 30 ∷ row 15 54 ∷ row 20 90 ∷ []
 
+abbrev pub exceeds : ℕ → Rail → Bool
+exceeds m r = ltb (r .above .0) m
+
 -- the rows that M exceeds
 abbrev pub fixedSlots : ℕ → List Rail → List Slot
 fixedSlots m [] = []
-fixedSlots m (r ∷ rs) = slotIf (ltb (r .above .0) m) (Fixed (r .volts)) ++ fixedSlots m rs
+fixedSlots m (r ∷ rs) = slotIf (exceeds m r) (Fixed (r .volts)) ++ fixedSlots m rs
 
 -- "AVS is present exactly when M > 54; its second current is 0 when M ≤ 90."
 abbrev pub avsSlots : ℕ → List Slot
@@ -47,19 +50,6 @@ progSlots m =
 abbrev pub slots : ℕ → List Slot
 slots m = baseSlots m ++ progSlots m
 
--- ---- as the code goes through the tables
-
--- a programmable supply with the M it must exceed and the M it must stay below. No port reaches 201. That these rows are those of
--- `progSlots` is proved in proofs/TableWalk
-abbrev pub supply : ℕ → ℕ → ℕ → ℕ → Supply
-supply volts top above below = record { volts = volts; top = record { 0 = top }; above = record { 0 = above }; below = record { 0 = below } }
-
-abbrev pub supplies : List Supply
-supplies = supply 9 110 30 90 ∷ supply 15 160 54 120 ∷ supply 20 210 90 201 ∷ []
-
--- whether M takes a row
-abbrev pub exceeds : ℕ → Rail → Bool
-exceeds m r = ltb (r .above .0) m
-
+-- as the code goes through its table of supplies: whether M lies between the ends of a row
 abbrev pub holds : ℕ → Supply → Bool
 holds m r = ltb (r .above .0) m && ltb m (r .below .0)
