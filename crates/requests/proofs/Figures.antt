@@ -1,28 +1,26 @@
 -- Fixed, battery and variable requests: two figures against the advertised one, in the step of the object.
 -- Assumes nothing.
 use mathlib.Core.Path.{_≡_, ap₂}
-use mathlib.Core.Bool.{Bool, not, _&&_}
-use mathlib.Core.List.{[], _∷_}
+use mathlib.Core.Bool.{Bool, not}
 use Prim.Native.Nat.{ℕ, _*_, _<_}
 use native.Mathlib.Omega.{arith}
 use lib.Dec.{leb}
-use Rattle.verdicts.specs.Refusals.{refusal, firstOf, verdictOf}
+use Rattle.verdicts.specs.Refusals.{firstOf, verdictOf}
 use Rattle.steps.specs.declared.Mv50.{Mv50}
 use Rattle.steps.specs.declared.Ma10.{Ma10}
 use Rattle.steps.specs.declared.Mw250.{Mw250}
 use Rattle.steps.proofs.StepTests.{past}
 use Rattle.objects.specs.declared.Object.the-variants.{Fixed, Battery, Variable}
-use Rattle.requests.specs.Taking.{mismatchOf, operatingIn, maximumIn}
-use Rattle.requests.specs.Judging.{limitsOf, figuresOf}
+use Rattle.requests.specs.Taking.{operatingIn, maximumIn}
+use Rattle.requests.specs.Judging.{limitsOf, figureRows, figuresOf}
 
 -- figures of one step are compared as the measures they stand for
 figures-in : (step advertised w : ℕ) → 0 < step
     → figuresOf advertised w
-    ≡ verdictOf (refusal (not (leb (operatingIn w * step) (advertised * step))) 24 0
-    ∷ refusal (not (leb (maximumIn w * step) (advertised * step)) && not (mismatchOf w)) 25 0 ∷ [])
+    ≡ verdictOf (figureRows (not (leb (operatingIn w * step) (advertised * step))) (not (leb (maximumIn w * step) (advertised * step))) w)
 unfolding figuresOf
 figures-in step advertised w pos =
-    ap₂ (λ (x y : Bool). verdictOf (refusal x 24 0 ∷ refusal (y && not (mismatchOf w)) 25 0 ∷ []))
+    ap₂ (λ (x y : Bool). verdictOf (figureRows x y w))
     (past step advertised (operatingIn w) pos) (past step advertised (maximumIn w) pos)
 
 pub fixed-limits : (f p w : ℕ) (v : Mv50) (a : Ma10) → figuresOf (a .0) w ≡ limitsOf (Fixed f p v a) w

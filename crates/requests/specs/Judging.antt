@@ -26,8 +26,10 @@ limitsOf o w = verdictOf (limitRows o (mismatchOf w) (requestOf o w))
 unfoldable pub judgedOf : Object → ℕ → Verdict
 judgedOf o w = verdictOf (refusal (reservedInRequest o w) 21 0 ∷ limitRows o (mismatchOf w) (requestOf o w))
 
+-- "24, 25", where each figure is larger than the advertised one or not; the maximum figure may be, where bit 26 is set
+abbrev pub figureRows : Bool → Bool → ℕ → List Refusal
+figureRows operatingLarger maximumLarger w = refusal operatingLarger 24 0 ∷ refusal (maximumLarger && not (mismatchOf w)) 25 0 ∷ []
+
 -- two figures and the advertised one, all in one step
 unfoldable pub figuresOf : ℕ → ℕ → Verdict
-figuresOf advertised w =
-    verdictOf
-    (refusal (ltb advertised (operatingIn w)) 24 0 ∷ refusal (ltb advertised (maximumIn w) && not (mismatchOf w)) 25 0 ∷ [])
+figuresOf advertised w = verdictOf (figureRows (ltb advertised (operatingIn w)) (ltb advertised (maximumIn w)) w)

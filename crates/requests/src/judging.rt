@@ -1,12 +1,9 @@
 // The limits of each kind. Figures are compared in the cheapest step; the definitions speak of mV and mA.
 ghost use mathlib.Core.Path.{_≡_};
-ghost use mathlib.Core.Bool.{not, _&&_};
-ghost use mathlib.Core.List.{[], _∷_};
-ghost use Rattle.verdicts.specs.Refusals.{refusal, verdict, verdictOf};
+ghost use Rattle.verdicts.specs.Refusals.{verdict, verdictOf};
 ghost use Rattle.steps.specs.Units.{mv25, ma10};
-ghost use Rattle.requests.specs.Taking.{mismatchOf};
 ghost use Rattle.requests.specs.Limits.{besideFigures, besideVoltage, bitSet, reservedInRequest, avsTop, avsLimit};
-ghost use Rattle.requests.specs.Judging.{figuresOf, limitsOf, judgedOf};
+ghost use Rattle.requests.specs.Judging.{figureRows, figuresOf, limitsOf, judgedOf};
 use crate::taking::avs_volts;
 use crate::taking::current;
 use crate::taking::maximum_current;
@@ -73,7 +70,7 @@ fn reserved_bit_set(o: Object, word: u32) -> bool
 
 // 24 comes before 25, and "the maximum figure likewise unless bit 26 is set".
 fn judge_figures(operating_too_large: bool, maximum_too_large: bool, word: u32) -> Verdict
-    ensures { λ r. ⌜ r ≡ verdictOf (refusal «operating_too_large» 24 0 ∷ refusal («maximum_too_large» && not (mismatchOf word)) 25 0 ∷ []) ⌝ }
+    ensures { λ r. ⌜ r ≡ verdictOf (figureRows «operating_too_large» «maximum_too_large» word) ⌝ }
 {
     if operating_too_large {
         return placeless(verdicts::OPERATING_TOO_LARGE);
