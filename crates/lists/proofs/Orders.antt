@@ -4,34 +4,27 @@ use mathlib.Core.Path.{_≡_, refl, ap, _∙_}
 use mathlib.Core.Bool.{Bool, true, false, cond}
 use Prim.Native.Nat.{ℕ, _<_}
 use native.Mathlib.Omega.{arith}
-use lib.Dec.{eqb}
 use borrow.Author.Tests.{lt-ltb, le-ltb, eq-eqb, ne-eqb}
 use Rattle.objects.specs.declared.Object.{Object}
-use Rattle.objects.specs.declared.Object.the-variants.{Fixed, Battery, Variable, Pps, Avs}
 use Rattle.lists.specs.declared.object_rules.Standing.{Standing}
 use Rattle.lists.specs.ObjectRules.{rankOf, keyOf, keysMayFollow, mayFollow}
-use Rattle.lists.specs.Judging.{standingOf, Follows}
+use Rattle.lists.specs.Judging.{in100mV, standingOf, Follows}
 
--- the figure to compare with the objects of this rank: PPS, of rank 4, has the 100 mV steps
+-- the figure to compare with the objects of this rank
 abbrev figureFor : ℕ → Standing → ℕ
-figureFor rank s = cond (eqb rank 4) (s .top .0) (s .volts .0)
-
-ranked : (o : Object) → rankOf o ≡ standingOf o .rank
-ranked (Fixed f p v a) = refl
-ranked (Battery x m p) = refl
-ranked (Variable x m a) = refl
-ranked (Pps l x m a) = refl
-ranked (Avs p l h) = refl
+figureFor rank s = cond (in100mV rank) (s .top .0) (s .volts .0)
 
 keyed : (o : Object) → keyOf o ≡ figureFor (rankOf o) (standingOf o)
-keyed (Fixed f p v a) = refl
-keyed (Battery x m p) = refl
-keyed (Variable x m a) = refl
-keyed (Pps l x m a) = refl
-keyed (Avs p l h) = refl
+keyed o = go (in100mV (rankOf o)) where
+  go : (b : Bool) → keyOf o ≡ cond b (cond b (keyOf o) 0) (cond b 0 (keyOf o))
+  go true = refl
+  go false = refl
 
 pub rank-in : {s : Standing} (before : Object) → standingOf before ≡ s → rankOf before ≡ s .rank
-rank-in before e = ranked before ∙ ap (λ (s : Standing). s .rank) e
+rank-in before e = ap (λ (s : Standing). s .rank) e
+
+key-in : {s : Standing} (before : Object) → standingOf before ≡ s → keyOf before ≡ figureFor (rankOf before) s
+key-in before e = keyed before ∙ ap (figureFor (rankOf before)) e
 
 -- what decides between objects of one rank
 abbrev pub byVoltage : Standing → Object → Bool
@@ -50,4 +43,4 @@ module _ (s : Standing) (o : Object) where
   pub level : s .rank ≡ rankOf o → (seen : Object) → o ≡ seen → Follows s o (byVoltage s seen)
   unfolding mayFollow
   level h seen q before e =
-      rw (← q, keyed before, e, rank-in before e, h, le-ltb (rankOf o) (rankOf o) (omega arith), eq-eqb (rankOf o) (rankOf o) refl)
+      rw (← q, key-in before e, rank-in before e, h, le-ltb (rankOf o) (rankOf o) (omega arith), eq-eqb (rankOf o) (rankOf o) refl)
