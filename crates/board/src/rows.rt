@@ -5,23 +5,16 @@ ghost use Prim.Native.Nat.{_≤_, _<_, min};
 ghost use lib.ListN.{length, set};
 ghost use Rattle.ports.specs.Lending.{lent};
 ghost use Rattle.board.specs.Rows.{noPorts, withRow, emptiedTo};
+use ports::NO_ROW;
 use ports::Ports;
 use ports::Row;
 use ports::emptied;
-use steps::HalfWatts;
 
 fn no_ports(count: usize) -> Ports
     ensures { λ r. ⌜ r ≡ noPorts count ⌝ }
 {
-    let none = Row {
-        max: HalfWatts(0),
-        pps: 0,
-        cable: 0,
-        present: HalfWatts(0),
-        held: HalfWatts(0),
-    };
     Ports {
-        rows: [none; 8],
+        rows: [NO_ROW; 8],
         count,
     }
 }

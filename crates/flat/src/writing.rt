@@ -10,20 +10,19 @@ use crate::Raised;
 use crate::flattening::raise;
 use lists::EMPTY_PLACE;
 use lists::Listing;
+use lists::NO_WORDS;
 use lists::Objects;
 use lists::Place;
 use lists::Reading;
-use lists::Words;
 use verdicts::Verdict;
 
 // A refusal: the list is empty and all zero.
 fn refuse(number: u8, place: u8) -> Listing
     ensures { λ r. ⌜ r ≡ writeRefused number place ⌝ }
 {
-    let words = [0u32; 7];
     Listing {
         verdict: Verdict { number, place },
-        list: Words { words, count: 0 },
+        list: NO_WORDS,
     }
 }
 

@@ -44,6 +44,12 @@ pub struct Listing {
     pub list: Words,
 }
 
+// An empty list, as it is on every refusal.
+pub const NO_WORDS: Words = Words {
+    words: [0; 7],
+    count: 0,
+};
+
 // A place past the count: a fixed object with all fields zero.
 pub const EMPTY_PLACE: Place = Place {
     object: Object::Fixed {

@@ -5,6 +5,7 @@ ghost use Rattle.lists.specs.Making.{madeOf};
 ghost use Rattle.lists.specs.Writing.{writeRefused};
 ghost use Rattle.lists.specs.Promises.{Writes};
 use crate::Listing;
+use crate::NO_WORDS;
 use crate::Objects;
 use crate::Words;
 use crate::shape_check::shape;
@@ -15,10 +16,9 @@ use verdicts::Verdict;
 fn refuse(number: u8, place: u8) -> Listing
     ensures { λ r. ⌜ r ≡ writeRefused number place ⌝ }
 {
-    let words = [0u32; 7];
     Listing {
         verdict: Verdict { number, place },
-        list: Words { words, count: 0 },
+        list: NO_WORDS,
     }
 }
 

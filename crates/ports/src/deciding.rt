@@ -11,13 +11,13 @@ ghost use Rattle.ports.specs.Refusing.{portRefusals};
 ghost use Rattle.ports.specs.Deciding.{noOffer, noChange, offering};
 ghost use Rattle.ports.specs.Promises.{SetsUp, Attaches, Advertises, Requests, Detaches, Remains};
 use crate::Change;
+use crate::NO_ROW;
 use crate::Offer;
 use crate::Ports;
 use crate::RemainingPower;
 use crate::Row;
 use crate::emptied;
 use crate::held::holding_power;
-use crate::held::no_row;
 use crate::power::held_for;
 use crate::refusing::attach_fault;
 use crate::refusing::remaining_fault;
@@ -25,7 +25,7 @@ use crate::refusing::set_up_fault;
 use crate::refusing::use_fault;
 use crate::soundness::verdict_at;
 use lists::Listing;
-use lists::Words;
+use lists::NO_WORDS;
 use rules::Profile;
 use steps::HalfWatts;
 use verdicts::Verdict;
@@ -67,13 +67,10 @@ fn no_offer(ports: Ports, verdict: Verdict) -> Offer
     Offer {
         answer: Listing {
             verdict,
-            list: Words {
-                words: [0; 7],
-                count: 0,
-            },
+            list: NO_WORDS,
         },
         at: ports.count,
-        row: no_row(),
+        row: NO_ROW,
     }
 }
 
@@ -83,7 +80,7 @@ fn no_change(ports: Ports, verdict: Verdict) -> Change
     Change {
         answer: verdict,
         at: ports.count,
-        row: no_row(),
+        row: NO_ROW,
     }
 }
 

@@ -1,20 +1,8 @@
-// The rows that are written.
+// The row that an accepted request leaves.
 ghost use mathlib.Core.Path.{_≡_};
-ghost use Rattle.ports.specs.Rows.{noRow, holding};
+ghost use Rattle.ports.specs.Rows.{holding};
 use crate::Row;
 use steps::HalfWatts;
-
-pub(crate) fn no_row() -> Row
-    ensures { λ r. ⌜ r ≡ noRow ⌝ }
-{
-    Row {
-        max: HalfWatts(0),
-        pps: 0,
-        cable: 0,
-        present: HalfWatts(0),
-        held: HalfWatts(0),
-    }
-}
 
 pub(crate) fn holding_power(row: Row, held: HalfWatts) -> Row
     ensures { λ r. ⌜ r ≡ holding row (held .0) ⌝ }

@@ -29,6 +29,15 @@ pub struct Row {
     pub held: HalfWatts,
 }
 
+// No row at all: what a refusal names, and what stands past the count.
+pub const NO_ROW: Row = Row {
+    max: HalfWatts(0),
+    pps: 0,
+    cable: 0,
+    present: HalfWatts(0),
+    held: HalfWatts(0),
+};
+
 // The lent rows by value: the first eight, and how many were lent. Places past the count are not looked at.
 pub struct Ports {
     pub rows: [Row; 8],

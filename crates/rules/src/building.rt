@@ -23,6 +23,7 @@ use crate::tables::Rail;
 use crate::tables::SUPPLIES;
 use crate::tables::Supply;
 use lists::Listing;
+use lists::NO_WORDS;
 use lists::Words;
 use objects::Encoded;
 use steps::Ma10;
@@ -166,10 +167,9 @@ fn put_supplies(words: &mut [u32; 7], from: usize, p: Profile) -> usize
 fn refuse(number: u8, place: u8) -> Listing
     ensures { λ r. ⌜ r ≡ writeRefused number place ⌝ }
 {
-    let words = [0u32; 7];
     Listing {
         verdict: Verdict { number, place },
-        list: Words { words, count: 0 },
+        list: NO_WORDS,
     }
 }
 
