@@ -52,6 +52,7 @@ use Rattle.lists.proofs.write.Reads as write
 use Rattle.steps.specs.declared.HalfWatts.{HalfWatts}
 use Rattle.rules.specs.declared.Profile.{Profile}
 use Rattle.rules.specs.declared.Profiled.{Profiled}
+use Rattle.rules.proofs.bad_cable.Reads as bad-cable
 use Rattle.rules.proofs.default_profile.Reads as default-profile
 use Rattle.rules.proofs.build.Reads as build
 use Rattle.rules.proofs.check.Reads as check
@@ -157,6 +158,9 @@ abbrev pub WriteAnswers : Objects → Listing → Type 0
 WriteAnswers o r = write.Post tt (o, tt) r (o, tt)
 
 -- ---- rules
+
+abbrev pub BadCableAnswers : ℕ → Bool → Type 0
+BadCableAnswers amperes r = bad-cable.Post tt (amperes, tt) r (amperes, tt)
 
 abbrev pub DefaultAnswers : HalfWatts → Profiled → Type 0
 DefaultAnswers m r = default-profile.Post tt (m, tt) r (m, tt)

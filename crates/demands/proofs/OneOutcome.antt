@@ -12,7 +12,7 @@ use Rattle.demands.proofs.Contracts.{Mv20ToMv25Answers, Mv20ToMv50Answe
 use Rattle.demands.proofs.Contracts.{DecodeAnswers, ReservedAnswers, EncodeAnswers, FixedWordAnswers, PpsWordAnswers, AvsWordAnswers}
 use Rattle.demands.proofs.Contracts.{ShapeAnswers, ReadAnswers, WriteAnswers}
 use Rattle.rules.specs.declared.Profile.{Profile}
-use Rattle.demands.proofs.Contracts.{DefaultAnswers, BuildAnswers, CheckAnswers}
+use Rattle.demands.proofs.Contracts.{BadCableAnswers, DefaultAnswers, BuildAnswers, CheckAnswers}
 use Rattle.lists.specs.declared.Words.{Words}
 use Rattle.demands.proofs.Contracts.{PositionAnswers, TakeApartAnswers, AnswerAnswers, AnswerShapedAnswers}
 use mathlib.Core.List.{List}
@@ -113,6 +113,9 @@ pub write-settles : Settled WriteAnswers
 write-settles o r s e f = only e f
 
 -- ---- rules
+
+pub bad-cable-settles : Settled BadCableAnswers
+bad-cable-settles amperes r s e f = only e f
 
 pub default-settles : Settled DefaultAnswers
 default-settles m r s e f = only e f

@@ -6,7 +6,6 @@ ghost use Rattle.ports.specs.Standing.{standingOf};
 use crate::Ports;
 use crate::soundness::Standing;
 use crate::soundness::at_fault;
-use crate::soundness::bad_cable;
 use crate::soundness::fresh_fault;
 use crate::soundness::stand;
 use crate::soundness::verdict_at;
@@ -86,7 +85,7 @@ pub(crate) fn attach_fault(ports: Ports, capacity: HalfWatts, port: u8, cable: u
     if named.fault.number != verdicts::SUCCESS {
         return named;
     }
-    if bad_cable(cable) {
+    if rules::bad_cable(cable) {
         return at_fault(verdicts::CABLE, 0);
     }
     let rows = ports.rows;

@@ -2,7 +2,6 @@
 ghost use mathlib.Core.Path.{_≡_};
 ghost use Prim.Native.Nat.{_≤_};
 ghost use Rattle.verdicts.specs.Refusals.{verdict, eachPlace, verdictOf};
-ghost use Rattle.rules.specs.Profiles.{badCable};
 ghost use Rattle.ports.specs.Soundness.{soundEmpty, soundAttached, soundRow};
 ghost use Rattle.ports.specs.Refusing.{freshRow, freshRows, faultRows};
 ghost use Rattle.ports.specs.Standing.{atFault, standingOf};
@@ -31,15 +30,6 @@ pub(crate) fn at_fault(number: u8, place: u8) -> Standing
     }
 }
 
-pub(crate) fn bad_cable(amperes: u8) -> bool
-    ensures { λ r. ⌜ r ≡ badCable amperes ⌝ }
-{
-    if amperes == 3 {
-        return false;
-    }
-    amperes != 5
-}
-
 fn sound_empty(row: Row) -> bool
     ensures { λ r. ⌜ r ≡ soundEmpty row ⌝ }
 {
@@ -52,7 +42,7 @@ fn sound_empty(row: Row) -> bool
 fn sound_attached(row: Row) -> bool
     ensures { λ r. ⌜ r ≡ soundAttached row ⌝ }
 {
-    if bad_cable(row.cable) {
+    if rules::bad_cable(row.cable) {
         return false;
     }
     if row.held.0 < 15 {

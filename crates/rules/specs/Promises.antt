@@ -1,15 +1,20 @@
 -- What each public call of this crate promises of its answer. The contracts cite these names, and so do the theorems over them.
 -- Assumes nothing.
 use mathlib.Core.Path.{_≡_}
+use mathlib.Core.Bool.{Bool}
+use Prim.Native.Nat.{ℕ}
 use Rattle.verdicts.specs.declared.Verdict.{Verdict}
 use Rattle.steps.specs.declared.HalfWatts.{HalfWatts}
 use Rattle.lists.specs.declared.Words.{Words}
 use Rattle.lists.specs.declared.Listing.{Listing}
 use Rattle.rules.specs.declared.Profile.{Profile}
 use Rattle.rules.specs.declared.Profiled.{Profiled}
-use Rattle.rules.specs.Profiles.{defaultOf}
+use Rattle.rules.specs.Profiles.{badCable, defaultOf}
 use Rattle.rules.specs.Building.{builtOf}
 use Rattle.rules.specs.Checking.{checkedOf}
+
+abbrev pub TellsBadCable : ℕ → Bool → Type 0
+TellsBadCable amperes r = r ≡ badCable amperes
 
 abbrev pub Defaults : HalfWatts → Profiled → Type 0
 Defaults m r = r ≡ defaultOf m

@@ -7,6 +7,7 @@ mod tables;
 
 pub use building::build;
 pub use checking::check;
+pub use profiles::bad_cable;
 pub use profiles::default_profile;
 use steps::HalfWatts;
 use verdicts::Verdict;

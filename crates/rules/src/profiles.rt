@@ -3,8 +3,8 @@ ghost use mathlib.Core.Path.{_≡_};
 ghost use mathlib.Core.Bool.{not};
 ghost use Rattle.verdicts.specs.Refusals.{verdictOf};
 ghost use Rattle.steps.specs.Ranges.{within};
-ghost use Rattle.rules.specs.Profiles.{badCable, profileRows, profileRefusals, profileRefused};
-ghost use Rattle.rules.specs.Promises.{Defaults};
+ghost use Rattle.rules.specs.Profiles.{profileRows, profileRefusals, profileRefused};
+ghost use Rattle.rules.specs.Promises.{TellsBadCable, Defaults};
 use crate::Profile;
 use crate::Profiled;
 use steps::HalfWatts;
@@ -71,8 +71,9 @@ pub fn judge_profile(p: Profile) -> Verdict
     Verdict { number, place: 0 }
 }
 
-fn bad_cable(amperes: u8) -> bool
-    ensures { λ r. ⌜ r ≡ badCable amperes ⌝ }
+// Whether a cable is refused (3): it carries 3 or 5 amperes.
+pub fn bad_cable(amperes: u8) -> bool
+    ensures { λ r. ⌜ TellsBadCable amperes r ⌝ }
 {
     if amperes == 3 {
         return false;

@@ -29,6 +29,20 @@ fn default_profile_of_every_maximum() {
 }
 
 #[test]
+fn every_cable() {
+    let mut run = Run::new("cables");
+    for cable in 0..=u8::MAX {
+        let profile = Profile {
+            cable,
+            ..model::default_profile(72).profile
+        };
+        let refused = model::build(&profile).verdict.number == 3;
+        run.same("bad_cable", &cable, rules::bad_cable(cable), refused);
+    }
+    run.finish(&[], &[]);
+}
+
+#[test]
 fn built_and_checked() {
     let mut run = Run::new("rules");
     while run.going() {
