@@ -1,4 +1,2 @@
-pub mod Appending
-pub mod Lengths
 pub mod Leaving
 pub mod Moving

@@ -3,7 +3,9 @@
 use mathlib.Core.List.{List}
 use Prim.Native.Nat.{ℕ, _+_, _*_}
 use lib.ListN.{getD}
+use Rattle.lists.specs.declared.Listing.{Listing}
 use Rattle.rules.specs.declared.Profile.{Profile}
+use Rattle.lines.specs.Text as text
 
 -- the profile of the record whose first byte is at a place of the input
 abbrev pub profileAt : List ℕ → ℕ → Profile
@@ -16,3 +18,7 @@ profileAt s at =
       pps = getD s (at + 6) 0;
       flags = getD s (at + 7) 0;
     }
+
+-- the line of a listing: "the refusal number, the count, then each word"
+abbrev pub lineOf : Listing → List ℕ
+lineOf a = text.lineOf (a .verdict .number) (a .list .words) (a .list .count)

@@ -1,21 +1,21 @@
 // Standard input to standard output, through one block for each. A read asks for all the room of its block. The other
 // block is written when the next line may not fit and when the input has ended, so a write is never small before that.
 ghost use mathlib.Core.Path.{_≡_};
+ghost use mathlib.Core.List.{[], _∷_};
 ghost use Prim.Native.Nat.{_+_, _*_, _≤_, _<_};
 ghost use lib.ListN.{length, take, drop};
 ghost use Rattle.rules.specs.Building.{builtOf};
-ghost use Rattle.caps.specs.Records.{profileAt};
-ghost use Rattle.caps.specs.Lines.{Appended, lineOf};
+ghost use Rattle.caps.specs.Records.{profileAt, lineOf};
+ghost use Rattle.lines.specs.Text.{Appended};
 ghost use Rattle.caps.specs.Blocks.{Leaves, Kept};
 use crate::Step;
 use crate::Written;
-use crate::lines::LONGEST;
-use crate::lines::put_line;
-use crate::lines::put_short;
 use crate::records::RECORD;
 use crate::records::profile_at;
 use libc::STDIN_FILENO;
 use libc::STDOUT_FILENO;
+use lines::LONGEST;
+use lines::put_line;
 
 fn flush(out: &[u8], next: usize) -> bool
     requires { ⌜ next ≤ length (now out) ⌝ }
@@ -43,7 +43,19 @@ fn put_record(input: &[u8], from: usize, out: &mut [u8], at: usize) -> usize
 {
     let profile = profile_at(input, from);
     let listing = rules::build(profile);
-    put_line(out, at, listing)
+    let verdict = listing.verdict;
+    let list = listing.list;
+    let words = list.words;
+    put_line(out, at, verdict.number, words, list.count)
+}
+
+// "A last record of 1 to 7 bytes prints `9 0`."
+fn put_short(out: &mut [u8], at: usize) -> usize
+    requires { ⌜ at + 71 ≤ length (now out) ⌝ }
+    ensures { λ r. ⌜ Appended (now (out .entry)) at (57 ∷ 32 ∷ 48 ∷ 10 ∷ []) (now (out .exit)) r ⌝ }
+{
+    let words = [0u32; 7];
+    put_line(out, at, verdicts::RECORD_SHORT, words, 0)
 }
 
 // The lines of the first records of the input block.

@@ -1,6 +1,5 @@
 // The listing program (01, "The listing program"): one line for each record of eight bytes on standard input.
 mod blocks;
-mod lines;
 mod records;
 
 // The next free place of the output block, or that a write failed.

@@ -2,6 +2,7 @@
 mod fields;
 mod object_fields;
 mod printing;
+mod text;
 
 pub use fields::Number;
 pub use fields::SmallNumber;
@@ -19,3 +20,5 @@ pub use printing::put_listing;
 pub use printing::put_text;
 pub use printing::put_unreadable;
 pub use printing::put_verdict;
+pub use text::LONGEST;
+pub use text::put_line;

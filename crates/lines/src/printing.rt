@@ -1,5 +1,8 @@
 // What is told. Bytes wait in a buffer until it is full, or until the console has to wait for input.
-ghost use Prim.Native.Nat.{_≤_};
+ghost use Prim.Native.Nat.{_+_, _≤_};
+use crate::text::put_byte;
+use crate::text::put_decimal;
+use crate::text::put_places;
 use libc::STDOUT_FILENO;
 use lists::Listing;
 use lists::Words;
@@ -13,18 +16,24 @@ pub fn flush(out: &[u8], end: usize) -> bool {
     io::write_all(STDOUT_FILENO, &out[0..end])
 }
 
-// `end` is where the bytes that wait end. Each `put` gives it anew. A write that fails here fails again at the next flush, which
-// tells.
-pub fn put(out: &mut [u8; 4096], end: usize, b: u8) -> usize
-    ensures { λ r. ⌜ r ≤ 4096 ⌝ }
+// `end` is where the bytes that wait end. Each `put` gives it anew.
+
+// A place with room for so many bytes. What waits is written where they would not fit; a write that fails here fails again at the next
+// flush, which tells.
+fn place_for(out: &[u8; 4096], end: usize, room: usize) -> usize
+    requires { ⌜ room ≤ 4096 ⌝ }
+    ensures { λ r. ⌜ r + room ≤ 4096 ⌝ }
 {
-    if end < 4096 {
-        out[end] = b;
-        return end + 1;
+    if end <= 4096 - room {
+        return end;
     }
-    flush(&*out, 4096);
-    out[0] = b;
-    1
+    flush(&*out, end);
+    0
+}
+
+pub fn put(out: &mut [u8; 4096], end: usize, b: u8) -> usize {
+    let at = place_for(&*out, end, 1);
+    put_byte(&mut *out, at, b)
 }
 
 pub fn put_text(out: &mut [u8; 4096], end: usize, text: &[u8]) -> usize {
@@ -38,38 +47,14 @@ pub fn put_text(out: &mut [u8; 4096], end: usize, text: &[u8]) -> usize {
 }
 
 pub fn put_number(out: &mut [u8; 4096], end: usize, n: u16) -> usize {
-    let mut text = [0u8; 20];
-    let k = io::decimal(n as u64, &mut text);
-    put_text(out, end, &text[..k])
+    let at = place_for(&*out, end, 5);
+    put_decimal(&mut *out, at, n)
 }
 
 // A number that is not the first of its line.
 pub fn put_field(out: &mut [u8; 4096], end: usize, n: u16) -> usize {
     let at = put(out, end, b' ');
     put_number(out, at, n)
-}
-
-// The lowest hex digit of n, as a capital.
-fn put_hex_digit(out: &mut [u8; 4096], end: usize, n: u32) -> usize {
-    let d = (n % 16) as u8;
-    if d < 10 {
-        return put(out, end, 48 + d);
-    }
-    put(out, end, 55 + d)
-}
-
-// The lowest four hex digits of n.
-fn put_four_digits(out: &mut [u8; 4096], end: usize, n: u32) -> usize {
-    let a = put_hex_digit(out, end, n / 4096);
-    let b = put_hex_digit(out, a, n / 256);
-    let c = put_hex_digit(out, b, n / 16);
-    put_hex_digit(out, c, n)
-}
-
-fn put_word(out: &mut [u8; 4096], end: usize, w: u32) -> usize {
-    let space = put(out, end, b' ');
-    let high = put_four_digits(out, space, w / 65536);
-    put_four_digits(out, high, w)
 }
 
 // A line that cannot be read.
@@ -85,16 +70,10 @@ pub fn put_verdict(out: &mut [u8; 4096], end: usize, verdict: Verdict) -> usize 
 
 // The count and as many words.
 fn put_words(out: &mut [u8; 4096], end: usize, list: Words) -> usize {
-    let count = list.count as usize;
-    let mut at = put_field(out, end, list.count as u16);
-    let mut i: usize = 0;
-    while i < 7 {
-        if i < count {
-            at = put_word(out, at, list.words[i]);
-        }
-        i += 1;
-    }
-    at
+    let count = put_field(out, end, list.count as u16);
+    let at = place_for(&*out, count, 63);
+    let words = list.words;
+    put_places(&mut *out, at, words, list.count)
 }
 
 pub fn put_listing(out: &mut [u8; 4096], end: usize, listing: Listing) -> usize {

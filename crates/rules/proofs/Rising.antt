@@ -9,7 +9,7 @@ use lib.Dec.{leb}
 use lib.ListN.{getD, length, length-append, List·getD-append}
 use borrow.Author.Tests.{leb-true}
 use Rattle.rules.specs.Tables.{Slot, Nothing, baseSlots, progSlots, slots}
-use Rattle.rules.proofs.EachMaximum.{everyBelow, at-each}
+use Rattle.steps.proofs.Computed.{everyBelow, at-each}
 use Rattle.rules.proofs.Positions.{slotPosition}
 
 -- each stands at the least position or after it, and after those before it

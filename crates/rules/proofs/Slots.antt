@@ -12,7 +12,7 @@ use Rattle.lists.specs.ObjectRules.{rankOf, keyOf, keysMayFollow, mayFollow}
 use Rattle.rules.specs.declared.Profile.{Profile}
 use Rattle.rules.specs.Tables.{Slot, Nothing, Fixed, Avs, Prog, baseSlots, progSlots, slots}
 use Rattle.rules.specs.Building.{objectFor}
-use Rattle.rules.proofs.EachMaximum.{everyBelow, at-each}
+use Rattle.steps.proofs.Computed.{everyBelow, at-each}
 
 -- ---- slots that a list can have
 

@@ -2,3 +2,4 @@ pub mod RoundingLaws
 pub mod ConversionLaws
 pub mod RangeLaws
 pub mod StepTests
+pub mod Computed

@@ -3,8 +3,8 @@
 use borrow.Author.Needs.{needs}
 use mathlib.Core.Path.{ap, _∙_}
 use Rattle.rules.specs.Building.{builtOf}
-use Rattle.caps.specs.Lines.{lineOf}
-use Rattle.caps.proofs.Appending.{text-is}
+use Rattle.caps.specs.Records.{lineOf}
+use Rattle.lines.proofs.Appending.{text-is}
 use Rattle.caps.proofs.blocks.put_record.Statement.{statement}
 use Rattle.caps.proofs.blocks.put_record.Tie as tie
 
@@ -23,8 +23,10 @@ same-length c = search needs
 returns : tie.Need-returns
 returns c =
     let put = c .before .before in
-    let built = put .before .before in
-    text-is (ap lineOf (built .build .ensures ∙ ap builtOf (built .before .profile-at .ensures))) (put .put-line .ensures)
+    let built = put .before .before .before .before .before in
+    let start = built .before .before .before .before in
+    text-is (ap lineOf (built .build .ensures ∙ ap builtOf (built .before .profile-at .ensures)))
+    (put .put-line .ensures .put (start .pre .1))
 
 pub put-record-spec : {M : Type 1} → statement M
 put-record-spec =

@@ -1,15 +1,12 @@
--- `caps::blocks::put_records` meets its contract: the invariant is that the next place is in the block;
--- no line is longer than the room made for it.
+-- `caps::blocks::put_records` meets its contract: the invariant is that the next place is in the block.
 -- Assumes nothing.
 use borrow.Author.Needs.{needs}
 use mathlib.Core.Path.{_≡_}
 use Prim.Native.Nat.{_-_, _*_, _≤_}
 use native.Mathlib.Omega.{arith}
 use lib.ListN.{length}
-use Rattle.rules.specs.Building.{builtOf}
-use Rattle.caps.specs.Records.{profileAt}
+use Rattle.lines.proofs.Appending.{inside}
 use Rattle.caps.proofs.Leaving.{room-at}
-use Rattle.caps.proofs.Lengths.{line-length}
 use Rattle.caps.proofs.blocks.put_records.Statement.{statement}
 use Rattle.caps.proofs.blocks.put_records.Tie as tie
 
@@ -63,13 +60,9 @@ loop-again c =
     let found = put .before .before .before in
     let asked = found .before .before in
     let turn = asked .before .before .before in
-    let input = turn .before .before .before .args .input .now in
-    omega (
-      arith,
-      room-at 71 (length (turn .loop .out)) (found .place .given .1) (asked .place-for-line .ensures),
-      put .put-record .ensures,
-      line-length (builtOf (profileAt input (turn .loop .i * 8))),
-    )
+    let free = room-at 71 (length (turn .loop .out)) (found .place .given .1) (asked .place-for-line .ensures) in
+    let next = inside (omega (arith, free)) (put .put-record .ensures) in
+    omega (arith, next, put .put-record .ensures)
 
 same-length-2 : tie.Need-same-length-2 Inv-loop μ-loop
 same-length-2 c = search needs

@@ -1,11 +1,11 @@
--- `caps::lines::put_line` meets its contract: its five texts, one after the other; none is longer than the room left for it.
+-- `lines::text::put_whole_line` meets its contract: its five texts, one after the other; none is longer than the room left for it.
 -- Assumes nothing.
 use borrow.Author.Needs.{needs}
 use native.Mathlib.Omega.{arith}
-use Rattle.caps.proofs.Lengths.{decimal-length, places-length}
-use Rattle.caps.proofs.Appending.{joined}
-use Rattle.caps.proofs.lines.put_line.Statement.{statement}
-use Rattle.caps.proofs.lines.put_line.Tie as tie
+use Rattle.lines.proofs.Lengths.{decimal-length, places-length}
+use Rattle.lines.proofs.Appending.{joined}
+use Rattle.lines.proofs.text.put_whole_line.Statement.{statement}
+use Rattle.lines.proofs.text.put_whole_line.Tie as tie
 
 put-decimal-requires : tie.Need-put-decimal-requires
 put-decimal-requires c κs = search needs
@@ -13,19 +13,19 @@ put-decimal-requires c κs = search needs
 put-byte-requires : tie.Need-put-byte-requires
 put-byte-requires c κs =
     let number = c .before .before .before in
-    let start = number .before .before .before .before .before in
-    omega (arith, number .put-decimal .ensures, decimal-length (start .args .listing .verdict .number), start .pre)
+    let start = number .before .before .before in
+    omega (arith, number .put-decimal .ensures, decimal-length (start .args .number) (search needs), start .pre)
 
 put-decimal-requires-2 : tie.Need-put-decimal-requires-2
 put-decimal-requires-2 c κs =
     let space = c .before .before .before in
     let number = space .before .before .before .before in
-    let start = number .before .before .before .before .before in
+    let start = number .before .before .before in
     omega (
       arith,
       number .put-decimal .ensures,
       space .put-byte .ensures,
-      decimal-length (start .args .listing .verdict .number),
+      decimal-length (start .args .number) (search needs),
       start .pre,
     )
 
@@ -34,14 +34,14 @@ put-places-requires c κs =
     let count = c .before .before .before in
     let space = count .before .before .before .before in
     let number = space .before .before .before .before in
-    let start = number .before .before .before .before .before in
+    let start = number .before .before .before in
     omega (
       arith,
       number .put-decimal .ensures,
       space .put-byte .ensures,
       count .put-decimal2 .ensures,
-      decimal-length (start .args .listing .verdict .number),
-      decimal-length (start .args .listing .list .count),
+      decimal-length (start .args .number) (search needs),
+      decimal-length (start .args .count) (search needs),
       start .pre,
     )
 
@@ -51,16 +51,16 @@ put-byte-requires-2 c κs =
     let count = places .before .before .before .before in
     let space = count .before .before .before .before in
     let number = space .before .before .before .before in
-    let start = number .before .before .before .before .before in
+    let start = number .before .before .before in
     omega (
       arith,
       number .put-decimal .ensures,
       space .put-byte .ensures,
       count .put-decimal2 .ensures,
       places .put-places .ensures,
-      decimal-length (start .args .listing .verdict .number),
-      decimal-length (start .args .listing .list .count),
-      places-length (start .args .listing .list) 7,
+      decimal-length (start .args .number) (search needs),
+      decimal-length (start .args .count) (search needs),
+      places-length (start .args .words) (start .args .count) 7,
       start .pre,
     )
 
@@ -77,8 +77,8 @@ returns c =
     let fields = joined (joined (number .put-decimal .ensures) (space .put-byte .ensures)) (count .put-decimal2 .ensures) in
     joined (joined fields (places .put-places .ensures)) (end .put-byte2 .ensures)
 
-pub put-line-spec : {M : Type 1} → statement M
-put-line-spec =
+pub put-whole-line-spec : {M : Type 1} → statement M
+put-whole-line-spec =
     tie.close
     (tie.spec
     put-decimal-requires

@@ -1,9 +1,9 @@
--- `caps::lines::put_byte` meets its contract: the law `one`.
+-- `lines::text::put_byte` meets its contract: the law `one`.
 -- Assumes nothing.
 use borrow.Author.Needs.{needs}
-use Rattle.caps.proofs.Appending.{one}
-use Rattle.caps.proofs.lines.put_byte.Statement.{statement}
-use Rattle.caps.proofs.lines.put_byte.Tie as tie
+use Rattle.lines.proofs.Appending.{one}
+use Rattle.lines.proofs.text.put_byte.Statement.{statement}
+use Rattle.lines.proofs.text.put_byte.Tie as tie
 
 slice-write-out : tie.Need-slice-write-out
 slice-write-out c = search needs

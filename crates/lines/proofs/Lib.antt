@@ -1,0 +1,4 @@
+pub mod Appending
+pub mod Lengths
+pub mod HexDigits
+pub mod Places

@@ -1,0 +1,14 @@
+-- `lines::text::places_that_count` meets its contract.
+-- Assumes nothing.
+use borrow.Author.Tests.{lt-ltb, le-ltb}
+use Rattle.lines.proofs.text.places_that_count.Statement.{statement}
+use Rattle.lines.proofs.text.places_that_count.Tie as tie
+
+returns : tie.Need-returns
+returns c = simp (lt-ltb _ _ (c .if1 .taken))
+
+returns-2 : tie.Need-returns-2
+returns-2 c = simp (le-ltb _ _ (c .if1 .left))
+
+pub places-that-count-spec : {M : Type 1} → statement M
+places-that-count-spec = tie.close (tie.spec returns returns-2)
