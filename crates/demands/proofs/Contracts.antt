@@ -48,6 +48,7 @@ use Rattle.lists.specs.declared.Reading.{Reading}
 use Rattle.lists.specs.declared.Listing.{Listing}
 use Rattle.lists.proofs.shape.Reads as shape
 use Rattle.lists.proofs.read.Reads as read
+use Rattle.lists.proofs.refuse.Reads as refuse
 use Rattle.lists.proofs.write.Reads as write
 use Rattle.steps.specs.declared.HalfWatts.{HalfWatts}
 use Rattle.rules.specs.declared.Profile.{Profile}
@@ -153,6 +154,9 @@ ShapeAnswers l r = shape.Post tt (l, tt) r (l, tt)
 
 abbrev pub ReadAnswers : Words → Reading → Type 0
 ReadAnswers l r = read.Post tt (l, tt) r (l, tt)
+
+abbrev pub RefuseAnswers : ℕ → ℕ → Listing → Type 0
+RefuseAnswers number place r = refuse.Post tt (number, (place, tt)) r (number, (place, tt))
 
 abbrev pub WriteAnswers : Objects → Listing → Type 0
 WriteAnswers o r = write.Post tt (o, tt) r (o, tt)

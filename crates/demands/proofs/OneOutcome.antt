@@ -10,7 +10,7 @@ use Rattle.objects.specs.declared.Object.{Object}
 use Rattle.demands.proofs.Contracts.{RoundDownAnswers, RoundUpAnswers}
 use Rattle.demands.proofs.Contracts.{Mv20ToMv25Answers, Mv20ToMv50Answers, Mv20ToMv100Answers, Mv25ToMv20Answers, Mv25ToMv50Answers, Mv25ToMv100Answers, Mv50ToMv20Answers, Mv50ToMv25Answers, Mv50ToMv100Answers, Mv100ToMv20Answers, Mv100ToMv25Answers, Mv100ToMv50Answers, Ma10ToMa50Answers, Ma50ToMa10Answers}
 use Rattle.demands.proofs.Contracts.{DecodeAnswers, ReservedAnswers, EncodeAnswers, FixedWordAnswers, PpsWordAnswers, AvsWordAnswers}
-use Rattle.demands.proofs.Contracts.{ShapeAnswers, ReadAnswers, WriteAnswers}
+use Rattle.demands.proofs.Contracts.{ShapeAnswers, ReadAnswers, RefuseAnswers, WriteAnswers}
 use Rattle.rules.specs.declared.Profile.{Profile}
 use Rattle.demands.proofs.Contracts.{BadCableAnswers, DefaultAnswers, BuildAnswers, CheckAnswers}
 use Rattle.lists.specs.declared.Words.{Words}
@@ -108,6 +108,9 @@ shape-settles l r s e f = only e f
 
 pub read-settles : Settled ReadAnswers
 read-settles l r s e f = only e f
+
+pub refuse-settles : (number : ℕ) → Settled (RefuseAnswers number)
+refuse-settles number place r s e f = only e f
 
 pub write-settles : Settled WriteAnswers
 write-settles o r s e f = only e f

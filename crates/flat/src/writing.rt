@@ -2,7 +2,6 @@
 ghost use mathlib.Core.Path.{_≡_};
 ghost use Prim.Native.Nat.{_≤_};
 ghost use Rattle.lists.specs.Reading.{readRefused};
-ghost use Rattle.lists.specs.Writing.{writeRefused};
 ghost use Rattle.flat.specs.Raising.{raisedListOf};
 ghost use Rattle.flat.specs.Promises.{FlatWrites};
 use crate::FlatObjects;
@@ -10,21 +9,11 @@ use crate::Raised;
 use crate::flattening::raise;
 use lists::EMPTY_PLACE;
 use lists::Listing;
-use lists::NO_WORDS;
 use lists::Objects;
 use lists::Place;
 use lists::Reading;
+use lists::refuse;
 use verdicts::Verdict;
-
-// A refusal: the list is empty and all zero.
-fn refuse(number: u8, place: u8) -> Listing
-    ensures { λ r. ⌜ r ≡ writeRefused number place ⌝ }
-{
-    Listing {
-        verdict: Verdict { number, place },
-        list: NO_WORDS,
-    }
-}
 
 // A place of no kind, by its number: the list has no objects.
 fn no_objects(place: u8) -> Reading

@@ -11,6 +11,7 @@ pub use shape_check::shape;
 use steps::Ma10;
 use steps::Mv50;
 use verdicts::Verdict;
+pub use write_list::refuse;
 pub use write_list::write;
 
 // Seven words and how many of them count. What lies past the count is not read.

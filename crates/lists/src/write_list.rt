@@ -2,8 +2,7 @@
 ghost use mathlib.Core.Path.{_≡_};
 ghost use Prim.Native.Nat.{_≤_};
 ghost use Rattle.lists.specs.Making.{madeOf};
-ghost use Rattle.lists.specs.Writing.{writeRefused};
-ghost use Rattle.lists.specs.Promises.{Writes};
+ghost use Rattle.lists.specs.Promises.{Refuses, Writes};
 use crate::Listing;
 use crate::NO_WORDS;
 use crate::Objects;
@@ -13,8 +12,8 @@ use objects::Encoded;
 use verdicts::Verdict;
 
 // A refusal: the list is empty and all zero.
-fn refuse(number: u8, place: u8) -> Listing
-    ensures { λ r. ⌜ r ≡ writeRefused number place ⌝ }
+pub fn refuse(number: u8, place: u8) -> Listing
+    ensures { λ r. ⌜ Refuses number place r ⌝ }
 {
     Listing {
         verdict: Verdict { number, place },

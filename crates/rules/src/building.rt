@@ -4,7 +4,7 @@ ghost use mathlib.Core.Bool.{cond, true, false};
 ghost use Prim.Native.Nat.{_+_, _≤_, _<_};
 ghost use lib.Dec.{ltb, eqb};
 ghost use lib.ListN.{length, set, replicate};
-ghost use Rattle.lists.specs.Writing.{wordIn, writeRefused};
+ghost use Rattle.lists.specs.Writing.{wordIn};
 ghost use Rattle.rules.specs.Profiles.{Within, ppsBelowMaximum};
 ghost use Rattle.rules.specs.Tables.{Fixed, Avs, Prog, rails, fixedSlots, baseSlots, exceeds, holds};
 ghost use Rattle.rules.specs.Currents.{builtCurrent};
@@ -23,13 +23,12 @@ use crate::tables::Rail;
 use crate::tables::SUPPLIES;
 use crate::tables::Supply;
 use lists::Listing;
-use lists::NO_WORDS;
 use lists::Words;
+use lists::refuse;
 use objects::Encoded;
 use steps::Ma10;
 use steps::Mv50;
 use steps::Mv100;
-use verdicts::Verdict;
 
 // F stands in bits 29..24 of the first word, and the flag field begins at bit 23.
 fn flags_at(first: bool, flags: u8) -> u8
@@ -162,15 +161,6 @@ fn put_supplies(words: &mut [u32; 7], from: usize, p: Profile) -> usize
         i += 1;
     }
     at
-}
-
-fn refuse(number: u8, place: u8) -> Listing
-    ensures { λ r. ⌜ r ≡ writeRefused number place ⌝ }
-{
-    Listing {
-        verdict: Verdict { number, place },
-        list: NO_WORDS,
-    }
 }
 
 // Whether PPS is wanted of a port that has less than its maximum (6).

@@ -71,7 +71,7 @@ pub fn judge_profile(p: Profile) -> Verdict
     Verdict { number, place: 0 }
 }
 
-// Whether a cable is refused (3): it carries 3 or 5 amperes.
+// Whether a cable is refused with 3. One of 3 or 5 amperes is not.
 pub fn bad_cable(amperes: u8) -> bool
     ensures { λ r. ⌜ TellsBadCable amperes r ⌝ }
 {

@@ -34,6 +34,26 @@ fn lists_read() {
     run.finish(&numbers, &[]);
 }
 
+#[test]
+fn every_refusal_has_an_empty_list() {
+    let mut run = Run::new("refusals");
+    for number in 0..=u8::MAX {
+        for place in 0..=u8::MAX {
+            let empty = model::Listing {
+                verdict: model::Verdict { number, place },
+                list: model::Words::default(),
+            };
+            run.same(
+                "refuse",
+                &(number, place),
+                lists::refuse(number, place).model(),
+                empty,
+            );
+        }
+    }
+    run.finish(&[], &[]);
+}
+
 /// The objects of a list of words; a word of no kind becomes some object. Past the count lies what must not be read.
 fn objects(random: &mut Random) -> Objects {
     let words = lists_made::any(random);
