@@ -1,0 +1,11 @@
+//! Hand-worked cases that the console has no line for, one row each, and its sharing lines over what it does not show.
+
+mod lists;
+mod making;
+mod ports;
+mod replay;
+mod requests;
+mod rules;
+mod sharing;
+mod steps;
+mod words;

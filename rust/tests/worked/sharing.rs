@@ -1,0 +1,130 @@
+//! One sharing call, made by value and over lent rows, with something past the count.
+
+use arinduleu::lists::{Listing, Words};
+use arinduleu::ports::{Ports, Row};
+use arinduleu::steps::HalfWatts;
+use arinduleu::verdicts::Verdict;
+use arinduleu::{board, ports};
+
+/// M, PPS wanted, cable, P, held.
+pub const fn row(max: u16, pps: u8, cable: u8, present: u16, held: u16) -> Row {
+    Row {
+        max: HalfWatts(max),
+        pps,
+        cable,
+        present: HalfWatts(present),
+        held: HalfWatts(held),
+    }
+}
+
+pub const fn empty(max: u16, pps: u8) -> Row {
+    row(max, pps, 0, 0, 15)
+}
+
+/// Stands in every place past the count: it would be refused if it were looked at, and shows if it is written.
+pub const PAST: Row = row(65535, 255, 255, 65535, 65535);
+
+/// The console's nine rows at most, and one more that is always past the count.
+pub type Places = [Row; 10];
+
+pub fn places(rows: &[Row]) -> Places {
+    let mut all = [PAST; 10];
+    all[..rows.len()].copy_from_slice(rows);
+    all
+}
+
+#[derive(Clone, Copy, Debug)]
+pub enum Call {
+    SetUp,
+    Attach(u8, u8),
+    Advertise(u8),
+    Request(u8, u32),
+    Detach(u8),
+    Remaining,
+}
+
+/// A call that gives no list has an empty one here, and one that gives no power has none.
+#[derive(Debug, PartialEq)]
+pub struct Answer {
+    pub verdict: Verdict,
+    pub list: Words,
+    pub power: u16,
+}
+
+pub fn judged(verdict: Verdict) -> Answer {
+    let list = Words {
+        words: [0; 7],
+        count: 0,
+    };
+    listed(Listing { verdict, list })
+}
+
+fn listed(listing: Listing) -> Answer {
+    Answer {
+        verdict: listing.verdict,
+        list: listing.list,
+        power: 0,
+    }
+}
+
+fn left(left: ports::RemainingPower) -> Answer {
+    Answer {
+        power: left.power.0,
+        ..judged(left.verdict)
+    }
+}
+
+/// What the call decides, and all places once the row that it names is written.
+pub fn by_value(all: Places, count: usize, capacity: u16, call: Call) -> (Answer, Places) {
+    let rows: [Row; 8] = std::array::from_fn(|at| all[at]);
+    let given = Ports { rows, count };
+    let capacity = HalfWatts(capacity);
+    let mut after = all;
+    let mut put = |at: usize, row| {
+        if at < count {
+            after[at] = row;
+        }
+    };
+    let answer = match call {
+        Call::SetUp => {
+            let verdict = ports::set_up(given, capacity);
+            if verdict.number == 0 {
+                (0..count).for_each(|at| put(at, ports::emptied(all[at])));
+            }
+            judged(verdict)
+        }
+        Call::Attach(port, cable) => {
+            let offer = ports::attach(given, capacity, port, cable);
+            put(offer.at, offer.row);
+            listed(offer.answer)
+        }
+        Call::Advertise(port) => {
+            let offer = ports::advertise(given, capacity, port);
+            put(offer.at, offer.row);
+            listed(offer.answer)
+        }
+        Call::Request(port, word) => {
+            let change = ports::request(given, capacity, port, word);
+            put(change.at, change.row);
+            judged(change.answer)
+        }
+        Call::Detach(port) => {
+            let change = ports::detach(given, capacity, port);
+            put(change.at, change.row);
+            judged(change.answer)
+        }
+        Call::Remaining => left(ports::remaining(given, capacity)),
+    };
+    (answer, after)
+}
+
+pub fn lent(rows: &mut [Row], capacity: u16, call: Call) -> Answer {
+    match call {
+        Call::SetUp => judged(board::arin_set_up(rows, capacity)),
+        Call::Attach(port, cable) => listed(board::arin_attach(rows, capacity, port, cable)),
+        Call::Advertise(port) => listed(board::arin_advertise(rows, capacity, port)),
+        Call::Request(port, word) => judged(board::arin_request(rows, capacity, port, word)),
+        Call::Detach(port) => judged(board::arin_detach(rows, capacity, port)),
+        Call::Remaining => left(board::arin_remaining(rows, capacity)),
+    }
+}
