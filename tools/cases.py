@@ -1,0 +1,100 @@
+"""The hand-worked cases of tests/cases, given to a console.
+
+A line of a case file is blank, or begins with '#', or is a case: CALL -> ANSWER. The calls of a file go on from the rows
+that the call before left; at the start of each file there are no rows.
+
+    python3 tools/cases.py calls > CALLS               every call, one a line
+    python3 tools/cases.py compare ANSWERS_FILE WHO    what WHO, a console, printed for CALLS, against the answers
+"""
+
+import argparse
+import pathlib
+import sys
+
+FOLDER = "tests/cases"
+ARROW = " -> "
+# Goes before the first call of each file.
+NO_ROWS, NONE_SET = "rows", "rows 0"
+
+
+def fail(why):
+    sys.exit("cases: " + why)
+
+
+def lines_of(path):
+    try:
+        lines = path.read_bytes().decode(errors="replace").split("\n")
+    except OSError as error:
+        fail(str(error))
+    if lines[-1] == "":
+        lines.pop()
+    return lines
+
+
+def cases_of(path, shown):
+    """Each case of a file: its place, the call and the answer."""
+    found = []
+    for at, line in enumerate(lines_of(path), 1):
+        if not line.strip() or line.startswith("#"):
+            continue
+        place = f"{shown}/{path.name}:{at}"
+        parts = line.split(ARROW)
+        if len(parts) != 2 or not all(parts):
+            fail(f"{place}: not blank, no '#', and not CALL{ARROW}ANSWER: {line}")
+        found.append((place, *parts))
+    return found
+
+
+def read_files(given):
+    """The cases of each file that has some, in the order of the files' names."""
+    folder = pathlib.Path(given or pathlib.Path(__file__).resolve().parent.parent / FOLDER)
+    shown = given or FOLDER
+    files = [cases_of(path, shown) for path in sorted(folder.glob("*.txt"))]
+    files = [cases for cases in files if cases]
+    if not files:
+        fail(f"{shown}: no case in this folder")
+    return files
+
+
+def steps_of(files):
+    """All that a console is asked, with the place and the answer that is right."""
+    for cases in files:
+        first, _, _ = cases[0]
+        yield first, NO_ROWS, NONE_SET
+        yield from cases
+
+
+def compare(files, path, who):
+    steps = list(steps_of(files))
+    answers = lines_of(pathlib.Path(path))
+    wrong = False
+    for (place, call, right), answer in zip(steps, answers):
+        if answer != right:
+            wrong = True
+            print(f"{place}: {call}\n    expected: {right}\n    {who} answered: {answer}")
+    if len(answers) != len(steps):
+        wrong = True
+        print(f"cases: {who} answered {len(answers)} lines where {len(steps)} were asked")
+    if wrong:
+        sys.exit(1)
+    count = sum(len(cases) for cases in files)
+    print(f"cases: {count} lines of {len(files)} files, {who} answers all")
+
+
+def main():
+    parser = argparse.ArgumentParser(description=__doc__, formatter_class=argparse.RawDescriptionHelpFormatter)
+    parser.add_argument("command", choices=["calls", "compare"])
+    parser.add_argument("words", nargs="*", metavar="ANSWERS_FILE WHO", help="of compare")
+    parser.add_argument("--folder", metavar="DIR", help=f"read the case files of DIR, not of {FOLDER}")
+    asked = parser.parse_intermixed_args()
+    if len(asked.words) != (2 if asked.command == "compare" else 0):
+        parser.error("compare takes ANSWERS_FILE and WHO, calls takes nothing")
+    files = read_files(asked.folder)
+    if asked.command == "compare":
+        compare(files, *asked.words)
+        return
+    for _, call, _ in steps_of(files):
+        print(call)
+
+
+main()
