@@ -3,8 +3,25 @@ use lists::Listing;
 use lists::Words;
 use rules::Profile;
 use steps::HalfWatts;
-use telling::comparing::same_verdict;
-use telling::comparing::same_words;
+use verdicts::Verdict;
+
+fn same_verdict(verdict: Verdict, number: u8, place: u8) -> bool {
+    verdict.number == number && verdict.place == place
+}
+
+// All seven words and the count.
+fn same_words(a: Words, b: Words) -> bool {
+    if a.count != b.count {
+        return false;
+    }
+    a.words[0] == b.words[0]
+        && a.words[1] == b.words[1]
+        && a.words[2] == b.words[2]
+        && a.words[3] == b.words[3]
+        && a.words[4] == b.words[4]
+        && a.words[5] == b.words[5]
+        && a.words[6] == b.words[6]
+}
 
 fn is_listing(l: Listing, wanted: Words) -> bool {
     let verdict = l.verdict;

@@ -8,8 +8,8 @@ use crate::making::PPS;
 use crate::making::UP;
 use crate::making::offers;
 use crate::making::profile;
+use crate::printing::tell;
 use lists::Words;
-use telling::tell;
 
 // Columns: M; 5 V, 9 V, 15 V, 20 V; AVS 9 to 15 V, AVS 15 to 20 V.
 fn by_m(

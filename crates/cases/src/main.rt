@@ -4,6 +4,7 @@ mod expecting;
 mod lists_of_01;
 mod making;
 mod notice_examples;
+mod printing;
 mod requests_on_l;
 mod table_10_4;
 

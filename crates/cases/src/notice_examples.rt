@@ -8,9 +8,9 @@ use crate::making::PPS;
 use crate::making::offers;
 use crate::making::port;
 use crate::making::with_progs;
+use crate::printing::tell;
 use lists::Words;
 use rules::Profile;
-use telling::tell;
 
 fn wanting_pps(watts: u8, cable: u8) -> Profile {
     port(watts, cable, watts, DOWN, PPS)

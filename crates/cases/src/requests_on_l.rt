@@ -1,7 +1,7 @@
 // 01, "Checked by hand": requests on L, whose AVS object is at position 5.
 use crate::expecting::answers;
 use crate::lists_of_01::list_l;
-use telling::tell;
+use crate::printing::tell;
 
 // AVS: 31..28 position, 20..9 voltage (25 mV), 6..0 current (50 mA). The current here is in 10 mA.
 fn on_l(position: u32, in_25_mv: u32, current: u32, number: u8) -> bool {

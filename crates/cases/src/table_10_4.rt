@@ -8,7 +8,7 @@ use crate::making::NONE;
 use crate::making::UP;
 use crate::making::offers;
 use crate::making::port;
-use telling::tell;
+use crate::printing::tell;
 
 fn row(
     maximum: u8,
