@@ -1,5 +1,6 @@
 // Profiles and words from figures as the documents write them: watts, volts, and currents in 10 mA. An object whose
 // current is NONE is not there.
+use lists::NO_WORDS;
 use lists::Words;
 use rules::Profile;
 use steps::HalfWatts;
@@ -85,9 +86,7 @@ fn with_word(list: Words, w: u32) -> Words {
 }
 
 fn fixed_part(at_5_v: u32, at_9_v: u32, at_15_v: u32, at_20_v: u32) -> Words {
-    let words = [0u32; 7];
-    let list = Words { words, count: 0 };
-    let list = with_word(list, fixed(5, at_5_v));
+    let list = with_word(NO_WORDS, fixed(5, at_5_v));
     let list = with_word(list, fixed(9, at_9_v));
     let list = with_word(list, fixed(15, at_15_v));
     with_word(list, fixed(20, at_20_v))

@@ -7,6 +7,7 @@ use lines::put_text;
 use lines::put_unreadable;
 use lines::take_number;
 use lines::take_small_number;
+use ports::NO_ROW;
 use ports::Ports;
 use ports::Row;
 use steps::HalfWatts;
@@ -45,10 +46,12 @@ fn row_of(max: u16, pps: u8, cable: u8, present: u16, held: u16) -> Row {
 
 // "which start as no rows at all"
 pub(crate) fn no_rows() -> Table {
-    let none = row_of(0, 0, 0, 0, 0);
-    let rows = [none; 8];
+    let rows = [NO_ROW; 8];
     let ports = Ports { rows, count: 0 };
-    Table { ports, ninth: none }
+    Table {
+        ports,
+        ninth: NO_ROW,
+    }
 }
 
 // Puts a row in its place. A place past the ninth has none.
