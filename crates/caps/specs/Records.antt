@@ -5,7 +5,7 @@ use Prim.Native.Nat.{ℕ, _+_, _*_}
 use lib.ListN.{getD}
 use Rattle.lists.specs.declared.Listing.{Listing}
 use Rattle.rules.specs.declared.Profile.{Profile}
-use Rattle.lines.specs.Text as text
+use Rattle.lines.specs.Text.{lineOf}
 
 -- the profile of the record whose first byte is at a place of the input
 abbrev pub profileAt : List ℕ → ℕ → Profile
@@ -19,6 +19,6 @@ profileAt s at =
       flags = getD s (at + 7) 0;
     }
 
--- the line of a listing: "the refusal number, the count, then each word"
-abbrev pub lineOf : Listing → List ℕ
-lineOf a = text.lineOf (a .verdict .number) (a .list .words) (a .list .count)
+-- the line of a listing
+abbrev pub listingLine : Listing → List ℕ
+listingLine a = lineOf (a .verdict .number) (a .list .words) (a .list .count)

@@ -5,7 +5,7 @@ ghost use mathlib.Core.List.{[], _∷_};
 ghost use Prim.Native.Nat.{_+_, _*_, _≤_, _<_};
 ghost use lib.ListN.{length, take, drop};
 ghost use Rattle.rules.specs.Building.{builtOf};
-ghost use Rattle.caps.specs.Records.{profileAt, lineOf};
+ghost use Rattle.caps.specs.Records.{profileAt, listingLine};
 ghost use Rattle.lines.specs.Text.{Appended};
 ghost use Rattle.caps.specs.Blocks.{Leaves, Kept};
 use crate::Step;
@@ -16,6 +16,7 @@ use libc::STDIN_FILENO;
 use libc::STDOUT_FILENO;
 use lines::LONGEST;
 use lines::put_line;
+use lists::NO_WORDS;
 
 fn flush(out: &[u8], next: usize) -> bool
     requires { ⌜ next ≤ length (now out) ⌝ }
@@ -39,7 +40,7 @@ fn place_for_line(out: &[u8], next: usize) -> Written
 
 fn put_record(input: &[u8], from: usize, out: &mut [u8], at: usize) -> usize
     requires { ⌜ (from + 8 ≤ length (now input)) × (at + 71 ≤ length (now out)) ⌝ }
-    ensures { λ r. ⌜ Appended (now (out .entry)) at (lineOf (builtOf (profileAt (now (input .entry)) from))) (now (out .exit)) r ⌝ }
+    ensures { λ r. ⌜ Appended (now (out .entry)) at (listingLine (builtOf (profileAt (now (input .entry)) from))) (now (out .exit)) r ⌝ }
 {
     let profile = profile_at(input, from);
     let listing = rules::build(profile);
@@ -54,8 +55,9 @@ fn put_short(out: &mut [u8], at: usize) -> usize
     requires { ⌜ at + 71 ≤ length (now out) ⌝ }
     ensures { λ r. ⌜ Appended (now (out .entry)) at (57 ∷ 32 ∷ 48 ∷ 10 ∷ []) (now (out .exit)) r ⌝ }
 {
-    let words = [0u32; 7];
-    put_line(out, at, verdicts::RECORD_SHORT, words, 0)
+    let list = NO_WORDS;
+    let words = list.words;
+    put_line(out, at, verdicts::RECORD_SHORT, words, list.count)
 }
 
 // The lines of the first records of the input block.

@@ -1,30 +1,16 @@
 -- The places past the count have no text, so those that count are all.
 -- Assumes nothing.
 use mathlib.Core.Path.{_≡_, refl, ap, ap₂, sym, _∙_}
-use mathlib.Core.Bool.{Bool, true, false, cond}
+use mathlib.Core.Bool.{Bool, true, false}
 use mathlib.Core.List.{List, [], _∷_, _++_, append-nil}
-use Prim.Native.Nat.{ℕ, zero, suc, _+_, _-_, _≤_, _<_}
-use native.Mathlib.Nat.{zero-add, suc-add}
+use Prim.Native.Nat.{ℕ, zero, suc, _+_, _-_, _≤_, _<_, min}
+use native.Mathlib.Nat.{zero-add, suc-add, min-eq-left, min-eq-right}
 use native.Mathlib.Omega.{arith}
 use native.Mathlib.Numerals.{add-one}
 use lib.Dec.{ltb}
 use lib.ListN.{getD}
 use borrow.Author.Tests.{ltb-true, ltb-false, lt-ltb, le-ltb}
-use Rattle.lines.specs.Text.{hexWord, smaller, placeText, placesText}
-
-pub smaller-left : (a b : ℕ) → smaller a b ≤ a
-smaller-left a b = at-most (ltb a b) refl
-  where
-    at-most : (t : Bool) → ltb a b ≡ t → cond t a b ≤ a
-    at-most true e = omega arith
-    at-most false e = omega (arith, ltb-false a b e)
-
-pub smaller-right : (a b : ℕ) → smaller a b ≤ b
-smaller-right a b = at-most (ltb a b) refl
-  where
-    at-most : (t : Bool) → ltb a b ≡ t → cond t a b ≤ b
-    at-most true e = omega (arith, ltb-true a b e)
-    at-most false e = omega arith
+use Rattle.lines.specs.Text.{hexWord, placeText, placesText}
 
 module _ (words : List ℕ) (count : ℕ) where
   no-text : (i : ℕ) → count ≤ i → placeText words count i ≡ []
@@ -40,11 +26,12 @@ module _ (words : List ℕ) (count : ℕ) where
       ∙ ap₂ (λ (x y : List ℕ). x ++ y) (past k) (no-text (k + count) (omega arith))
       ∙ append-nil (placesText words count count)
 
-  either : (b : Bool) → ltb count 7 ≡ b → placesText words count (cond b count 7) ≡ placesText words count 7
+  either : (b : Bool) → ltb count 7 ≡ b → placesText words count (min count 7) ≡ placesText words count 7
   either true e =
-      let whole : (7 - count) + count ≡ 7 = omega (arith, ltb-true count 7 e) in
-      sym (past (7 - count)) ∙ ap (placesText words count) whole
-  either false e = refl
+      let below : count ≤ 7 = omega (arith, ltb-true count 7 e) in
+      let whole : (7 - count) + count ≡ 7 = omega (arith, below) in
+      ap (placesText words count) (min-eq-left below) ∙ sym (past (7 - count)) ∙ ap (placesText words count) whole
+  either false e = ap (placesText words count) (min-eq-right (ltb-false count 7 e))
 
-  pub all-that-count : placesText words count (smaller count 7) ≡ placesText words count 7
+  pub all-that-count : placesText words count (min count 7) ≡ placesText words count 7
   all-that-count = either (ltb count 7) refl

@@ -40,11 +40,9 @@ abbrev pub hexDigits : ℕ → ℕ → List ℕ
 hexDigits zero w = []
 hexDigits (suc n) w = hexDigits n w ++ (hexDigit (w / 2 ^ (28 - 4 * n) % 16) ∷ [])
 
+-- a word as 8 capital hex digits
 unfoldable pub hexWord : ℕ → List ℕ
 hexWord w = hexDigits 8 w
-
-abbrev pub smaller : ℕ → ℕ → ℕ
-smaller a b = cond (ltb a b) a b
 
 -- a space and the word, where the place counts
 abbrev pub placeText : List ℕ → ℕ → ℕ → List ℕ
@@ -55,5 +53,6 @@ abbrev pub placesText : List ℕ → ℕ → ℕ → List ℕ
 placesText words count zero = []
 placesText words count (suc n) = placesText words count n ++ placeText words count n
 
+-- the line of a number, a list and its count: 32 is a space, 10 the end of the line
 abbrev pub lineOf : ℕ → List ℕ → ℕ → List ℕ
 lineOf number words count = decimal number ++ (32 ∷ []) ++ decimal count ++ placesText words count 7 ++ (10 ∷ [])

@@ -1,4 +1,4 @@
-// The lines of the console: the fields that are typed, and the answers that are told.
+// What both programs print with, and the lines of the console: the fields that are typed, and the answers that are told.
 mod fields;
 mod object_fields;
 mod printing;

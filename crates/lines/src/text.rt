@@ -1,9 +1,9 @@
 // Text put into a block of bytes at a place: what both programs print with. Each function answers the place after its text.
 ghost use mathlib.Core.Path.{_≡_};
 ghost use mathlib.Core.List.{[], _∷_};
-ghost use Prim.Native.Nat.{_+_, _≤_, _<_};
+ghost use Prim.Native.Nat.{_+_, _≤_, _<_, min};
 ghost use lib.ListN.{length};
-ghost use Rattle.lines.specs.Text.{Appended, PutWhereRoom, digitFrom, decimal, hexWord, smaller, placesText, lineOf};
+ghost use Rattle.lines.specs.Text.{Appended, PutWhereRoom, digitFrom, decimal, hexWord, placesText, lineOf};
 
 const HEX_DIGITS: [u8; 16] = [
     b'0',
@@ -81,7 +81,7 @@ fn put_place(out: &mut [u8], at: usize, w: u32) -> usize
 }
 
 fn places_that_count(count: u8) -> usize
-    ensures { λ r. ⌜ r ≡ smaller count 7 ⌝ }
+    ensures { λ r. ⌜ r ≡ min count 7 ⌝ }
 {
     if count < 7 {
         return count as usize;

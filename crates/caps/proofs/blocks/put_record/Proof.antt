@@ -3,7 +3,7 @@
 use borrow.Author.Needs.{needs}
 use mathlib.Core.Path.{ap, _∙_}
 use Rattle.rules.specs.Building.{builtOf}
-use Rattle.caps.specs.Records.{lineOf}
+use Rattle.caps.specs.Records.{listingLine}
 use Rattle.lines.proofs.Appending.{text-is}
 use Rattle.caps.proofs.blocks.put_record.Statement.{statement}
 use Rattle.caps.proofs.blocks.put_record.Tie as tie
@@ -25,7 +25,7 @@ returns c =
     let put = c .before .before in
     let built = put .before .before .before .before .before in
     let start = built .before .before .before .before in
-    text-is (ap lineOf (built .build .ensures ∙ ap builtOf (built .before .profile-at .ensures)))
+    text-is (ap listingLine (built .build .ensures ∙ ap builtOf (built .before .profile-at .ensures)))
     (put .put-line .ensures .put (start .pre .1))
 
 pub put-record-spec : {M : Type 1} → statement M

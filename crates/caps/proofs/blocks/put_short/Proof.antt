@@ -13,7 +13,7 @@ same-length c = search needs
 returns : tie.Need-returns
 returns c =
     let put = c .before .before in
-    put .put-line .ensures .put (put .before .before .before .pre)
+    put .put-line .ensures .put (put .before .before .before .before .pre)
 
 pub put-short-spec : {M : Type 1} → statement M
 put-short-spec = tie.close (tie.spec put-line-requires same-length returns)

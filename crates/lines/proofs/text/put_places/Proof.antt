@@ -2,12 +2,13 @@
 -- Assumes nothing.
 use borrow.Author.Needs.{needs}
 use mathlib.Core.Path.{_≡_, ap, _∙_}
-use Prim.Native.Nat.{_-_, _≤_, _<_}
+use Prim.Native.Nat.{_-_, _≤_, _<_, min}
+use native.Mathlib.Nat.{min-le-left, min-le-right}
 use native.Mathlib.Omega.{arith}
-use Rattle.lines.specs.Text.{Appended, smaller, placesText}
+use Rattle.lines.specs.Text.{Appended, placesText}
 use Rattle.lines.proofs.Appending.{nothing, joined, text-is}
 use Rattle.lines.proofs.Lengths.{places-length}
-use Rattle.lines.proofs.Places.{smaller-left, smaller-right, one-more, all-that-count}
+use Rattle.lines.proofs.Places.{one-more, all-that-count}
 use Rattle.lines.proofs.text.put_places.Statement.{statement}
 use Rattle.lines.proofs.text.put_places.Tie as tie
 
@@ -27,12 +28,12 @@ loop-holds c = (search needs, nothing _ _)
 mul-put-place : tie.Need-mul-put-place Inv-loop μ-loop
 mul-put-place c =
     let asked = c .before .before .before in
-    omega (arith, asked .places-that-count .ensures, smaller-right (asked .before .before .args .count) 7)
+    omega (arith, asked .places-that-count .ensures, min-le-right (asked .before .before .args .count) 7)
 
 array-read-put-place : tie.Need-array-read-put-place Inv-loop μ-loop
 array-read-put-place c =
     let asked = c .before .before .before in
-    omega (arith, asked .places-that-count .ensures, smaller-right (asked .before .before .args .count) 7)
+    omega (arith, asked .places-that-count .ensures, min-le-right (asked .before .before .args .count) 7)
 
 put-place-requires : tie.Need-put-place-requires Inv-loop μ-loop
 put-place-requires c κs =
@@ -43,7 +44,7 @@ put-place-requires c κs =
       arith,
       turn .inv .1,
       asked .places-that-count .ensures,
-      smaller-right (start .args .count) 7,
+      min-le-right (start .args .count) 7,
       places-length (start .args .t3) (start .args .count) (turn .i),
       start .pre,
     )
@@ -60,7 +61,7 @@ loop-again c =
     let turn = put .before .before .before in
     let asked = turn .before in
     let start = asked .before .before in
-    let counts : turn .loop .i < start .args .count = omega (arith, asked .places-that-count .ensures, smaller-left (start .args .count) 7) in (
+    let counts : turn .loop .i < start .args .count = omega (arith, asked .places-that-count .ensures, min-le-left (start .args .count) 7) in (
       search needs,
       text-is (one-more (start .args .t3) (start .args .count) (turn .loop .i) counts)
           (joined (turn .loop .inv .1) (put .put-place .ensures)),
@@ -74,7 +75,7 @@ returns c =
     let turn = c .before .loop in
     let asked = c .before .before in
     let start = asked .before .before in
-    let all : turn .i ≡ smaller (start .args .count) 7 = omega (arith, asked .places-that-count .ensures) in
+    let all : turn .i ≡ min (start .args .count) 7 = omega (arith, asked .places-that-count .ensures) in
     text-is
     (ap (placesText (start .args .t3) (start .args .count)) all ∙ all-that-count (start .args .t3) (start .args .count))
     (turn .inv .1)
