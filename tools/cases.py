@@ -33,6 +33,8 @@ def lines_of(path):
 
 def cases_of(path, shown):
     """Each case of a file: its place, the call and the answer."""
+    if path.suffix != ".txt":
+        fail(f"{shown}/{path.name}: a case file ends in .txt")
     found = []
     for at, line in enumerate(lines_of(path), 1):
         if not line.strip() or line.startswith("#"):
@@ -42,18 +44,22 @@ def cases_of(path, shown):
         if len(parts) != 2 or not all(parts):
             fail(f"{place}: not blank, no '#', and not CALL{ARROW}ANSWER: {line}")
         found.append((place, *parts))
+    if not found:
+        fail(f"{shown}/{path.name}: no case in this file")
     return found
 
 
 def read_files(given):
-    """The cases of each file that has some, in the order of the files' names."""
+    """The cases of each file, in the order of the files' names. Nothing else may lie in the folder: it would not be asked."""
     folder = pathlib.Path(given or pathlib.Path(__file__).resolve().parent.parent / FOLDER)
     shown = given or FOLDER
-    files = [cases_of(path, shown) for path in sorted(folder.glob("*.txt"))]
-    files = [cases for cases in files if cases]
-    if not files:
+    try:
+        paths = sorted(folder.iterdir())
+    except OSError as error:
+        fail(str(error))
+    if not paths:
         fail(f"{shown}: no case in this folder")
-    return files
+    return [cases_of(path, shown) for path in paths]
 
 
 def steps_of(files):

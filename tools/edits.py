@@ -1,4 +1,3 @@
-#!/usr/bin/env python3
 """The wrong answers that the prover has to refuse: crates/NAME/must-fail/*.edit.
 
 usage: python3 tools/edits.py check [ROOT]   after rt ci or rt must-fail: each is refused at its own function
@@ -19,6 +18,8 @@ wrong answer has its own `file:` line.
 `refused:` has every function whose own proof fails, and no function stands twice in a file. A function that calls such a one
 is not proved either, and is not named: the log says of it "it calls ..", and nothing fails in its own proof but the place
 where the proofs of what it calls come in. What else it has to prove is stated by contracts alone.
+Wrong answers of one file are told apart by their functions alone. So one that changes a definition is tried by itself when it is
+written, and `refused:` then has every function that fails for it.
 """
 
 import re
@@ -149,6 +150,9 @@ def compare(root, edit):
     log = (where / ".log").read_text(encoding="utf-8")
     if not re.search(r"^logic=not-proved", log, re.M):
         return edit.error("the prover did not end with a refusal")
+    # The edit changed the shape of the code, so that a proof no longer fits it: that shows nothing of the answer.
+    for misfit in re.findall(r"^(\S+): error: .* has no `Need-.* that can be named from here", log, re.M):
+        edit.error(f"a proof asks for a need that is gone: {Path(misfit).relative_to(where)}")
     own, callers = refused_in(log, edit.crate)
     for wrong in edit.wrongs:
         for function in wrong.refused:
