@@ -11,6 +11,7 @@ pub mod OtherKinds
 pub mod Steps
 pub mod Followed
 pub mod Slots
+pub mod Places
 pub mod Counting
 pub mod Positions
 pub mod Rising

@@ -46,13 +46,13 @@ unfolding everyBelow baseSlots progSlots
 base-not-empty m l h =
     leb-true 1 (length (baseSlots m)) (or-right (ltb m 1) _ (at-each (λ (n : ℕ). ltb n 1 || leb 1 (length (baseSlots n))) 201 m refl (omega arith)) (le-ltb m 1 l))
 
-abbrev isFixed : ℕ → Slot → Bool
+abbrev pub isFixed : ℕ → Slot → Bool
 isFixed volts Nothing = false
 isFixed volts (Fixed v) = eqb v volts
 isFixed volts (Avs past15V) = false
 isFixed volts (Prog v top) = false
 
-fixed-is : (volts : ℕ) (s : Slot) → isFixed volts s ≡ true → s ≡ Fixed volts
+pub fixed-is : (volts : ℕ) (s : Slot) → isFixed volts s ≡ true → s ≡ Fixed volts
 fixed-is volts Nothing e = let z : false ≡ true = e in cc
 fixed-is volts (Fixed v) e = ap Fixed (eqb-true v volts e)
 fixed-is volts (Avs past15V) e = let z : false ≡ true = e in cc

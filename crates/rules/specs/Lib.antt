@@ -2,6 +2,7 @@ pub mod Profiles
 pub mod Tables
 pub mod Currents
 pub mod Building
+pub mod Placing
 pub mod Sets
 pub mod Checking
 pub mod Following

@@ -48,7 +48,7 @@ fn word_in(e: Encoded) -> u32
     w
 }
 
-fn rail_word(p: Profile, first: bool, volts: u16) -> u32
+pub(crate) fn rail_word(p: Profile, first: bool, volts: u16) -> u32
     requires { ⌜ Within p × (volts ≤ 20) ⌝ }
     ensures { λ r. ⌜ r ≡ slotWord p first (Fixed volts) ⌝ }
 {
@@ -68,7 +68,7 @@ fn second_current(p: Profile) -> Ma10
     Ma10(0)
 }
 
-fn avs_word(p: Profile) -> u32
+pub(crate) fn avs_word(p: Profile) -> u32
     requires { ⌜ Within p ⌝ }
     ensures { λ r. ⌜ r ≡ slotWord p false (Avs (ltb 90 (p .max .0))) ⌝ }
 {
@@ -78,7 +78,7 @@ fn avs_word(p: Profile) -> u32
     word_in(e)
 }
 
-fn supply_word(p: Profile, volts: u16, top: Mv100) -> u32
+pub(crate) fn supply_word(p: Profile, volts: u16, top: Mv100) -> u32
     requires { ⌜ Within p ⌝ }
     ensures { λ r. ⌜ r ≡ slotWord p false (Prog volts (top .0)) ⌝ }
 {
@@ -164,7 +164,7 @@ fn put_supplies(words: &mut [u32; 7], from: usize, p: Profile) -> usize
 }
 
 // Whether PPS is wanted of a port that has less than its maximum (6).
-fn wants_too_much(p: Profile) -> bool
+pub(crate) fn wants_too_much(p: Profile) -> bool
     ensures { λ r. ⌜ r ≡ ppsBelowMaximum p ⌝ }
 {
     if p.pps == 1 {

@@ -2,11 +2,13 @@
 mod building;
 mod checking;
 mod currents;
+mod placing;
 mod profiles;
 mod tables;
 
 pub use building::build;
 pub use checking::check;
+pub use placing::word_at;
 pub use profiles::bad_cable;
 pub use profiles::default_profile;
 use steps::HalfWatts;
@@ -29,4 +31,10 @@ pub struct Profile {
 pub struct Profiled {
     pub verdict: Verdict,
     pub profile: Profile,
+}
+
+// The word at a place of a built list, from 1, or that it has no such place.
+pub enum Placed {
+    Word(u32),
+    NoPlace,
 }

@@ -82,6 +82,33 @@ fn built_and_checked() {
     run.finish(NUMBERS, &[]);
 }
 
+/// Each word of the built list by its place, and none anywhere else.
+#[test]
+fn words_at_places() {
+    let mut run = Run::new("words at places");
+    while run.going() {
+        let profile = profiles::any(&mut run.random);
+        let built = model::build(&profile);
+        // The places of a list and those beside them, then any.
+        let places: [u8; 12] = [0, 1, 2, 3, 4, 5, 6, 7, 8, 9, 255, run.random.u8()];
+        for place in places {
+            let word = match place {
+                1..=7 if place <= built.list.count => {
+                    Some(built.list.words[usize::from(place) - 1])
+                }
+                _ => None,
+            };
+            let library = match rules::word_at(profile.library(), place) {
+                rules::Placed::Word(word) => Some(word),
+                rules::Placed::NoPlace => None,
+            };
+            run.same("word_at", &(profile, place), library, word);
+        }
+        run.saw(built.verdict.number);
+    }
+    run.finish(&[0, 1, 2, 3, 4, 5, 6], &[]);
+}
+
 /// A list, and a profile that it may keep to: its own, one close to it, or any.
 fn to_check(random: &mut Random, any: Profile) -> (Profile, Words) {
     if random.one_in(4) {
