@@ -1,7 +1,9 @@
-pub mod RowLaws
+pub mod Data
+pub mod Structs
 pub mod Lent
 pub mod Known
-pub mod FirstRows
+pub mod Cells
+pub mod Meeting
 pub mod EmptiedTo
-pub mod Said
 pub mod Callees
+pub mod Shape

@@ -1,54 +1,37 @@
-// The lent rows: read by value, one of them written, the first of them emptied. All else works by value, so that only the
-// functions here and the calls themselves have a reference to the rows.
+// The lent rows where they lie: judged and summed in one pass, one of them read, one of them written, the first n of them emptied. What
+// these do is decided by value, in `ports`. Only the functions here and the calls themselves have a reference to the rows.
 ghost use mathlib.Core.Path.{_≡_};
-ghost use Prim.Native.Nat.{_≤_, _<_, min};
+ghost use Prim.Native.Nat.{_≤_};
 ghost use lib.ListN.{length, set};
-ghost use Rattle.ports.specs.Lending.{lent};
-ghost use Rattle.board.specs.Rows.{noPorts, withRow, emptiedTo};
+ghost use Rattle.ports.specs.Rows.{rowOf};
+ghost use Rattle.ports.specs.Standing.{standingOf, placeOf};
+ghost use Rattle.board.specs.Rows.{emptiedTo};
 use ports::NO_ROW;
-use ports::Ports;
 use ports::Row;
+use ports::Standing;
 use ports::emptied;
+use steps::HalfWatts;
 
-fn no_ports(count: usize) -> Ports
-    ensures { λ r. ⌜ r ≡ noPorts count ⌝ }
+// 30, 32, then row by row, and what the rows hold together. More than eight rows are refused by their count, and none is read.
+pub(crate) fn stand(rows: &[Row], capacity: HalfWatts, fresh: bool) -> Standing
+    ensures { λ r. ⌜ r ≡ standingOf fresh (capacity .0) (now (rows .entry)) ⌝ }
 {
-    Ports {
-        rows: [NO_ROW; 8],
-        count,
+    let mut standing = ports::begin(rows.len(), capacity);
+    let mut judged = 0;
+    while ports::goes_on(standing, judged) {
+        let row = rows[judged];
+        judged += 1;
+        standing = ports::take_row(standing, row, judged as u8, fresh);
     }
+    standing
 }
 
-fn up_to_eight(count: usize) -> usize
-    ensures { λ r. ⌜ r ≡ min count 8 ⌝ }
+// The row of a port. Past the end, as after a refusal, no row is read.
+pub(crate) fn row_of(rows: &[Row], standing: Standing, port: u8) -> Row
+    ensures { λ r. ⌜ r ≡ rowOf (now (rows .entry)) (placeOf standing port) ⌝ }
 {
-    if count < 8 { count } else { 8 }
-}
-
-fn with_row(ports: Ports, at: usize, row: Row) -> Ports
-    requires { ⌜ at < 8 ⌝ }
-    ensures { λ r. ⌜ r ≡ withRow ports at row ⌝ }
-{
-    let mut with = ports;
-    with.rows[at] = row;
-    with
-}
-
-// The first eight rows, and how many were lent: more are refused by that count, and no other row is looked at. A loop, and not eight
-// rows by name: the compiler would take those apart into their fields and run out of registers.
-pub(crate) fn read_rows(rows: &[Row]) -> Ports
-    ensures { λ r. ⌜ r ≡ lent (now (rows .entry)) ⌝ }
-{
-    let count = rows.len();
-    let n = up_to_eight(count);
-    let mut ports = no_ports(count);
-    let mut i = 0;
-    while i < n {
-        let row = rows[i];
-        ports = with_row(ports, i, row);
-        i += 1;
-    }
-    ports
+    let at = ports::place_of(standing, port);
+    if at < rows.len() { rows[at] } else { NO_ROW }
 }
 
 // A place past the end is no row: nothing is written there. A refusal has such a place.

@@ -1,6 +1,7 @@
-// The sharing calls, over the console's own rows: `ports` decides by value, and the row that it names is written here.
+// The sharing calls, over the console's own rows: the loops over the rows are here, what they do is decided by value in `ports`.
 use crate::table::Answered;
 use crate::table::Table;
+use crate::table::row_at;
 use crate::table::unreadable;
 use crate::table::with_row;
 ghost use mathlib.Core.Path.{_≡_};
@@ -12,37 +13,61 @@ use lines::put_verdict;
 use lines::take_number;
 use lines::take_small_number;
 use lines::take_word;
+use ports::NO_ROW;
 use ports::Row;
+use ports::Standing;
 use ports::emptied;
 use steps::HalfWatts;
 
+// One pass judges and sums.
+fn stand(table: Table, capacity: HalfWatts, fresh: bool) -> Standing {
+    let mut standing = ports::begin(table.count, capacity);
+    let mut i: usize = 0;
+    while i < 9 {
+        if ports::goes_on(standing, i) {
+            let row = row_at(table, i);
+            standing = ports::take_row(standing, row, (i + 1) as u8, fresh);
+        }
+        i += 1;
+    }
+    standing
+}
+
+// The row of a port, and no row after a refusal.
+fn row_of(table: Table, standing: Standing, port: u8) -> Row {
+    let at = ports::place_of(standing, port);
+    if table.count <= at {
+        return NO_ROW;
+    }
+    row_at(table, at)
+}
+
 // A refusal names the count, which is no row: "rows are not written".
 fn written(table: Table, at: usize, row: Row) -> Table
-    ensures refused { λ r. ⌜ (table .ports .count ≤ at → r ≡ table) ⌝ }
-    ensures placed { λ r. ⌜ (at < table .ports .count → at < 8 → r .ports .rows ≡ set (table .ports .rows) at row) ⌝ }
-    ensures count { λ r. ⌜ r .ports .count ≡ table .ports .count ⌝ }
+    ensures refused { λ r. ⌜ (table .count ≤ at → r ≡ table) ⌝ }
+    ensures placed { λ r. ⌜ (at < table .count → at < 9 → r .rows ≡ set (table .rows) at row) ⌝ }
+    ensures count { λ r. ⌜ r .count ≡ table .count ⌝ }
 {
-    let ports = table.ports;
-    if ports.count <= at {
+    if table.count <= at {
         return table;
     }
     with_row(table, at, row)
 }
 
-// "Set-up .. empties all ports". A success has at most eight rows; rows past the count are not looked at.
+// "Set-up .. empties all ports". What stands past the count is never shown.
 fn all_emptied(table: Table) -> Table {
-    let mut ports = table.ports;
-    let ninth = table.ninth;
-    let mut rows = ports.rows;
+    let mut rows = table.rows;
     let mut i: usize = 0;
-    while i < 8 {
+    while i < 9 {
         let row = rows[i];
         let empty = emptied(row);
         rows[i] = empty;
         i += 1;
     }
-    ports.rows = rows;
-    Table { ports, ninth }
+    Table {
+        rows,
+        count: table.count,
+    }
 }
 
 // Each line function is handed where the word that names the call ended.
@@ -57,8 +82,8 @@ pub(crate) fn set_up_line(
     if capacity.next != line.len() {
         return unreadable(out, end, table);
     }
-    let ports = table.ports;
-    let verdict = ports::set_up(ports, HalfWatts(capacity.value));
+    let standing = stand(table, HalfWatts(capacity.value), ports::FRESH);
+    let verdict = standing.fault;
     let told = put_verdict(out, end, verdict);
     if verdict.number != verdicts::SUCCESS {
         return Answered { table, end: told };
@@ -83,12 +108,19 @@ pub(crate) fn attach_line(
     if cable.next != line.len() {
         return unreadable(out, end, table);
     }
-    let ports = table.ports;
-    let offer = ports::attach(ports, HalfWatts(capacity.value), port.value, cable.value);
-    let answer = offer.answer;
-    let row = offer.row;
+    let standing = stand(table, HalfWatts(capacity.value), ports::SOUND);
+    let own = row_of(table, standing, port.value);
+    let change = ports::attach(
+        standing,
+        own,
+        HalfWatts(capacity.value),
+        port.value,
+        cable.value,
+    );
+    let row = change.row;
+    let answer = ports::offer(change);
     let told = put_listing(out, end, answer);
-    let after = written(table, offer.at, row);
+    let after = written(table, change.at, row);
     Answered {
         table: after,
         end: told,
@@ -107,12 +139,13 @@ pub(crate) fn advertise_line(
     if port.next != line.len() {
         return unreadable(out, end, table);
     }
-    let ports = table.ports;
-    let offer = ports::advertise(ports, HalfWatts(capacity.value), port.value);
-    let answer = offer.answer;
-    let row = offer.row;
+    let standing = stand(table, HalfWatts(capacity.value), ports::SOUND);
+    let own = row_of(table, standing, port.value);
+    let change = ports::advertise(standing, own, HalfWatts(capacity.value), port.value);
+    let row = change.row;
+    let answer = ports::offer(change);
     let told = put_listing(out, end, answer);
-    let after = written(table, offer.at, row);
+    let after = written(table, change.at, row);
     Answered {
         table: after,
         end: told,
@@ -132,8 +165,15 @@ pub(crate) fn request_line(
     if asked.next != line.len() {
         return unreadable(out, end, table);
     }
-    let ports = table.ports;
-    let change = ports::request(ports, HalfWatts(capacity.value), port.value, asked.value);
+    let standing = stand(table, HalfWatts(capacity.value), ports::SOUND);
+    let own = row_of(table, standing, port.value);
+    let change = ports::request(
+        standing,
+        own,
+        HalfWatts(capacity.value),
+        port.value,
+        asked.value,
+    );
     let answer = change.answer;
     let row = change.row;
     let told = put_verdict(out, end, answer);
@@ -156,8 +196,9 @@ pub(crate) fn detach_line(
     if port.next != line.len() {
         return unreadable(out, end, table);
     }
-    let ports = table.ports;
-    let change = ports::detach(ports, HalfWatts(capacity.value), port.value);
+    let standing = stand(table, HalfWatts(capacity.value), ports::SOUND);
+    let own = row_of(table, standing, port.value);
+    let change = ports::detach(standing, own, HalfWatts(capacity.value), port.value);
     let answer = change.answer;
     let row = change.row;
     let told = put_verdict(out, end, answer);
@@ -179,8 +220,8 @@ pub(crate) fn remaining_line(
     if capacity.next != line.len() {
         return unreadable(out, end, table);
     }
-    let ports = table.ports;
-    let left = ports::remaining(ports, HalfWatts(capacity.value));
+    let standing = stand(table, HalfWatts(capacity.value), ports::SOUND);
+    let left = ports::remaining(standing, HalfWatts(capacity.value));
     let verdict = left.verdict;
     let told = put_verdict(out, end, verdict);
     let all = put_field(out, told, left.power.0);

@@ -8,14 +8,13 @@ use lines::put_unreadable;
 use lines::take_number;
 use lines::take_small_number;
 use ports::NO_ROW;
-use ports::Ports;
 use ports::Row;
 use steps::HalfWatts;
 
-// Eight rows and the count, which may be 9, as the sharing calls take them, and the ninth row, which is only kept to be told.
+// Up to nine rows, one more than the sharing calls take, so that a table too long can be shown to be refused.
 pub(crate) struct Table {
-    pub ports: Ports,
-    pub ninth: Row,
+    pub rows: [Row; 9],
+    pub count: usize,
 }
 
 // What a line leaves: the table, and where the bytes that wait to be written end.
@@ -46,53 +45,37 @@ fn row_of(max: u16, pps: u8, cable: u8, present: u16, held: u16) -> Row {
 
 // "which start as no rows at all"
 pub(crate) fn no_rows() -> Table {
-    let rows = [NO_ROW; 8];
-    let ports = Ports { rows, count: 0 };
     Table {
-        ports,
-        ninth: NO_ROW,
+        rows: [NO_ROW; 9],
+        count: 0,
     }
 }
 
 // Puts a row in its place. A place past the ninth has none.
 pub(crate) fn with_row(table: Table, at: usize, row: Row) -> Table
-    ensures count { λ r. ⌜ r .ports .count ≡ table .ports .count ⌝ }
-    ensures placed { λ r. ⌜ (at < 8 → r .ports .rows ≡ set (table .ports .rows) at row) ⌝ }
-    ensures ninth { λ r. ⌜ (at ≡ 8 → r .ninth ≡ row) ⌝ }
+    ensures count { λ r. ⌜ r .count ≡ table .count ⌝ }
+    ensures placed { λ r. ⌜ (at < 9 → r .rows ≡ set (table .rows) at row) ⌝ }
 {
-    let old = table.ports;
-    let ninth = table.ninth;
     if 8 < at {
         return table;
     }
-    if at == 8 {
-        return Table {
-            ports: old,
-            ninth: row,
-        };
-    }
-    let mut rows = old.rows;
+    let mut rows = table.rows;
     rows[at] = row;
-    let ports = Ports {
+    Table {
         rows,
-        count: old.count,
-    };
-    Table { ports, ninth }
+        count: table.count,
+    }
 }
 
 fn with_count(table: Table, count: usize) -> Table {
-    let old = table.ports;
-    let ninth = table.ninth;
-    let rows = old.rows;
-    let ports = Ports { rows, count };
-    Table { ports, ninth }
+    let rows = table.rows;
+    Table { rows, count }
 }
 
-fn row_at(table: Table, at: usize) -> Row {
-    let ports = table.ports;
-    let ninth = table.ninth;
-    let rows = ports.rows;
-    if at < 8 { rows[at] } else { ninth }
+// The row at a place, and no row past the ninth.
+pub(crate) fn row_at(table: Table, at: usize) -> Row {
+    let rows = table.rows;
+    if at < 9 { rows[at] } else { NO_ROW }
 }
 
 pub(crate) fn unreadable(out: &mut [u8; 4096], end: usize, table: Table) -> Answered {
@@ -135,9 +118,8 @@ fn take_table(line: &[u8], at: usize) -> TableFields {
 
 fn put_row_count(out: &mut [u8; 4096], end: usize, table: Table) -> usize {
     let at = put_text(out, end, b"rows");
-    let ports = table.ports;
     // At most 9; the remainder only shows that it fits.
-    put_field(out, at, (ports.count % 65536) as u16)
+    put_field(out, at, (table.count % 65536) as u16)
 }
 
 fn put_row(out: &mut [u8; 4096], end: usize, row: Row) -> usize {
@@ -149,8 +131,7 @@ fn put_row(out: &mut [u8; 4096], end: usize, row: Row) -> usize {
 }
 
 fn put_table(out: &mut [u8; 4096], end: usize, table: Table) -> usize {
-    let ports = table.ports;
-    let count = ports.count;
+    let count = table.count;
     let mut at = put_row_count(out, end, table);
     let mut i: usize = 0;
     while i < 9 {

@@ -57,20 +57,26 @@ use Rattle.rules.proofs.bad_cable.Reads as bad-cable
 use Rattle.rules.proofs.default_profile.Reads as default-profile
 use Rattle.rules.proofs.build.Reads as build
 use Rattle.rules.proofs.check.Reads as check
+use Rattle.rules.specs.declared.Placed.{Placed}
+use Rattle.rules.proofs.word_at.Reads as word-at
 use Rattle.requests.specs.declared.Asked.{Asked}
 use Rattle.requests.proofs.position.Reads as position
 use Rattle.requests.proofs.take_apart.Reads as take-apart
 use Rattle.requests.proofs.answer.Reads as answer
-use Rattle.requests.proofs.answer_shaped.Reads as answer-shaped
+use Rattle.requests.proofs.judge.Reads as judge
 use Rattle.ports.specs.declared.Row.{Row}
-use Rattle.ports.specs.declared.Ports.{Ports}
-use Rattle.ports.specs.declared.Offer.{Offer}
+use Rattle.ports.specs.declared.Standing.{Standing}
 use Rattle.ports.specs.declared.Change.{Change}
 use Rattle.ports.specs.declared.RemainingPower.{RemainingPower}
 use Rattle.ports.proofs.emptied.Reads as emptied
-use Rattle.ports.proofs.set_up.Reads as set-up
+use Rattle.ports.proofs.begin.Reads as begin
+use Rattle.ports.proofs.goes_on.Reads as goes-on
+use Rattle.ports.proofs.take_row.Reads as take-row
+use Rattle.ports.proofs.all_or_none.Reads as all-or-none
+use Rattle.ports.proofs.place_of.Reads as place-of
 use Rattle.ports.proofs.attach.Reads as attach
 use Rattle.ports.proofs.advertise.Reads as advertise
+use Rattle.ports.proofs.offer.Reads as offer
 use Rattle.ports.proofs.request.Reads as request
 use Rattle.ports.proofs.detach.Reads as detach
 use Rattle.ports.proofs.remaining.Reads as remaining
@@ -175,6 +181,9 @@ BuildAnswers p r = build.Post tt (p, tt) r (p, tt)
 abbrev pub CheckAnswers : Profile → Words → Verdict → Type 0
 CheckAnswers p l r = check.Post tt (p, (l, tt)) r (p, (l, tt))
 
+abbrev pub WordAtAnswers : Profile → ℕ → Placed → Type 0
+WordAtAnswers p place r = word-at.Post tt (p, (place, tt)) r (p, (place, tt))
+
 -- ---- requests
 
 abbrev pub PositionAnswers : ℕ → ℕ → Type 0
@@ -186,28 +195,45 @@ TakeApartAnswers o w r = take-apart.Post tt (o, (w, tt)) r (o, (w, tt))
 abbrev pub AnswerAnswers : Words → ℕ → Verdict → Type 0
 AnswerAnswers l w r = answer.Post tt (l, (w, tt)) r (l, (w, tt))
 
-abbrev pub AnswerShapedAnswers : Words → ℕ → Verdict → Type 0
-AnswerShapedAnswers l w r = answer-shaped.Post tt (l, (w, tt)) r (l, (w, tt))
+abbrev pub JudgeAnswers : Object → ℕ → Verdict → Type 0
+JudgeAnswers o w r = judge.Post tt (o, (w, tt)) r (o, (w, tt))
 
 -- ---- ports
 
 abbrev pub EmptiedAnswers : Row → Row → Type 0
 EmptiedAnswers y r = emptied.Post tt (y, tt) r (y, tt)
 
-abbrev pub SetUpDecides : Ports → HalfWatts → Verdict → Type 0
-SetUpDecides t capacity r = set-up.Post tt (t, (capacity, tt)) r (t, (capacity, tt))
+abbrev pub BeginAnswers : ℕ → HalfWatts → Standing → Type 0
+BeginAnswers count capacity r = begin.Post tt (count, (capacity, tt)) r (count, (capacity, tt))
 
-abbrev pub AttachDecides : Ports → HalfWatts → ℕ → ℕ → Offer → Type 0
-AttachDecides t capacity port cable r = attach.Post tt (t, (capacity, (port, (cable, tt)))) r (t, (capacity, (port, (cable, tt))))
+abbrev pub GoesOnAnswers : Standing → ℕ → Bool → Type 0
+GoesOnAnswers s judged r = goes-on.Post tt (s, (judged, tt)) r (s, (judged, tt))
 
-abbrev pub AdvertiseDecides : Ports → HalfWatts → ℕ → Offer → Type 0
-AdvertiseDecides t capacity port r = advertise.Post tt (t, (capacity, (port, tt))) r (t, (capacity, (port, tt)))
+abbrev pub TakeRowAnswers : Standing → Row → ℕ → Bool → Standing → Type 0
+TakeRowAnswers s y place fresh r = take-row.Post tt (s, (y, (place, (fresh, tt)))) r (s, (y, (place, (fresh, tt))))
 
-abbrev pub RequestDecides : Ports → HalfWatts → ℕ → ℕ → Change → Type 0
-RequestDecides t capacity port word r = request.Post tt (t, (capacity, (port, (word, tt)))) r (t, (capacity, (port, (word, tt))))
+abbrev pub AllOrNoneAnswers : Standing → ℕ → Type 0
+AllOrNoneAnswers s r = all-or-none.Post tt (s, tt) r (s, tt)
 
-abbrev pub DetachDecides : Ports → HalfWatts → ℕ → Change → Type 0
-DetachDecides t capacity port r = detach.Post tt (t, (capacity, (port, tt))) r (t, (capacity, (port, tt)))
+abbrev pub PlaceOfAnswers : Standing → ℕ → ℕ → Type 0
+PlaceOfAnswers s port r = place-of.Post tt (s, (port, tt)) r (s, (port, tt))
 
-abbrev pub RemainingDecides : Ports → HalfWatts → RemainingPower → Type 0
-RemainingDecides t capacity r = remaining.Post tt (t, (capacity, tt)) r (t, (capacity, tt))
+abbrev pub AttachDecides : Standing → Row → HalfWatts → ℕ → ℕ → Change → Type 0
+AttachDecides s y capacity port cable r =
+    attach.Post tt (s, (y, (capacity, (port, (cable, tt))))) r (s, (y, (capacity, (port, (cable, tt)))))
+
+abbrev pub AdvertiseDecides : Standing → Row → HalfWatts → ℕ → Change → Type 0
+AdvertiseDecides s y capacity port r = advertise.Post tt (s, (y, (capacity, (port, tt)))) r (s, (y, (capacity, (port, tt))))
+
+abbrev pub OfferAnswers : Change → Listing → Type 0
+OfferAnswers c r = offer.Post tt (c, tt) r (c, tt)
+
+abbrev pub RequestDecides : Standing → Row → HalfWatts → ℕ → ℕ → Change → Type 0
+RequestDecides s y capacity port word r =
+    request.Post tt (s, (y, (capacity, (port, (word, tt))))) r (s, (y, (capacity, (port, (word, tt)))))
+
+abbrev pub DetachDecides : Standing → Row → HalfWatts → ℕ → Change → Type 0
+DetachDecides s y capacity port r = detach.Post tt (s, (y, (capacity, (port, tt)))) r (s, (y, (capacity, (port, tt))))
+
+abbrev pub RemainingDecides : Standing → HalfWatts → RemainingPower → Type 0
+RemainingDecides s capacity r = remaining.Post tt (s, (capacity, tt)) r (s, (capacity, tt))

@@ -1,34 +1,30 @@
 -- What is known of the ports and what their rows hold agree after every run: set-up makes it so, and each call keeps it.
 -- Assumes nothing.
 use mathlib.Core.Path.{_≡_, refl, sym, ap, ap₂, _∙_, subst}
-use mathlib.Core.Bool.{Bool, true, false, not, cond}
+use mathlib.Core.Bool.{Bool, true, false, cond}
 use mathlib.Core.List.{List, [], _∷_, _++_, map}
 use mathlib.Core.Logic.{_⊎_, inl, inr, ⊎-elim}
-use Prim.Native.Nat.{ℕ, _-_, _*_, _<_, min}
-use native.Mathlib.Omega.{arith}
+use Prim.Native.Nat.{ℕ, _-_, _<_, min}
 use lib.Dec.{eqb}
-use lib.ListN.{length, getD, set}
+use lib.ListN.{length, length-set, length-map, set}
 use borrow.Author.Tests.{eqb-true, eqb-false, eq-eqb, ne-eqb, not-false}
 use Rattle.verdicts.specs.declared.Verdict.{Verdict}
-use Rattle.verdicts.specs.Refusals.{Refusal, refusal, eachPlace, verdict, success, verdictOf}
+use Rattle.verdicts.specs.Refusals.{Refusal, eachPlace, verdict, success, verdictOf}
 use Rattle.verdicts.proofs.First.{NoneApply, none-left, none-right, none-applied, all-missed, refused-so, numbered}
-use Rattle.steps.specs.Ranges.{within}
 use Rattle.lists.specs.declared.Words.{Words}
 use Rattle.lists.specs.declared.Listing.{Listing}
 use Rattle.lists.specs.Writing.{writeRefused}
 use Rattle.ports.specs.declared.Row.{Row}
-use Rattle.ports.specs.declared.Ports.{Ports}
-use Rattle.ports.specs.Rows.{noRow, rowOf, portRow, heldAt, allHeld, leftFor, together, besides, emptied, presentFor, offered, holding}
+use Rattle.ports.specs.Rows.{rowOf, portRow, heldAt, allHeld, leftFor, together, besides, emptied, presentFor, offering, offered, holding}
 use Rattle.ports.specs.RuleLists.{rulePps, ruleProfile, ruleList}
 use Rattle.ports.specs.Requests.{heldFor, newHeld}
 use Rattle.ports.specs.Refusing.{tableRefusals, freshRows, setUpRefusals, remainingRefusals, portRefusals, cannotAttach, attachRefusals, useRefusals, ownRefusals, noPowerNow, requestRefusals}
-use Rattle.ports.specs.Lending.{lent, setUpAnswer, setUpRows, attachAnswer, attachRows, advertiseAnswer, advertiseRows, requestAnswer, requestRows, detachAnswer, detachRows}
+use Rattle.ports.specs.Lending.{setUpAnswer, setUpRows, attachAnswer, attachRows, advertiseAnswer, advertiseRows, requestAnswer, requestRows, detachAnswer, detachRows}
 use Rattle.ports.proofs.Sound.{sound-empty}
 use Rattle.ports.proofs.Sums.{same-figures, others-agree}
-use Rattle.ports.proofs.Passing.{count-high, table-passes, port-at, row-sound, use-port, in-use, set-up-numbered, attach-numbered, use-numbered, request-numbered}
+use Rattle.ports.proofs.Passing.{table-passes, port-at, row-sound, use-port, in-use, set-up-numbered, attach-numbered, use-numbered, request-numbered}
 use Rattle.board.specs.Promises.{SharesAttach, SharesAdvertise, SharesRequest, SharesDetach}
-use Rattle.demands.proofs.LentRows.{lent-count, lent-row, written-count, emptied-count, emptied-row}
-use Rattle.demands.proofs.SoundRows.{SoundRows, of-clear, to-clear, by-place, attach-keeps, advertise-keeps, request-keeps, detach-keeps, set-up-sounds}
+use Rattle.demands.proofs.SoundRows.{SoundRows, of-clear, to-clear, by-place, emptied-row, attach-keeps, advertise-keeps, request-keeps, detach-keeps, set-up-sounds}
 use Rattle.demands.proofs.History.{Known, empty, figures, smaller, changed, ifAccepted, newFigure, learnt, maxOf, wantedOf, known, Event, attached, advertised, requested, detached, remained, Step, SetUp, Run}
 
 -- ---- a row and what is known of its port
@@ -42,16 +38,11 @@ pub record Agrees (m wanted : ℕ) (p : Known) (y : Row) : Type 0 where
   pub list-is : eqb (p .cable) 0 ≡ false → p .list ≡ ruleList y
 
 pub record Kept (capacity : ℕ) (start : List Row) (h : ℕ → Known) (ys : List Row) : Type 0 where
-  pub clear : NoneApply (remainingRefusals capacity (lent ys))
-  pub count-is : lent ys .count ≡ length start
-  pub each : (k : ℕ) → k < lent ys .count → Agrees (maxOf start k) (wantedOf start k) (h k) (rowOf (lent ys) k)
+  pub clear : NoneApply (remainingRefusals capacity ys)
+  pub count-is : length ys ≡ length start
+  pub each : (k : ℕ) → k < length ys → Agrees (maxOf start k) (wantedOf start k) (h k) (rowOf ys k)
 
 -- ---- the first call
-
--- the number of rows decides the first refusals, with the capacity
-same-table : (capacity : ℕ) (t u : Ports) → u .count ≡ t .count → NoneApply (tableRefusals capacity t) → NoneApply (tableRefusals capacity u)
-same-table capacity t u e x =
-    subst (λ (n : ℕ). NoneApply (refusal (not (within 1 8 n)) 30 0 ∷ refusal (not (within (15 * n) 1600 capacity)) 32 0 ∷ [])) (sym e) x
 
 emptied-agrees : (y : Row) → Agrees (y .max .0) (y .pps) empty (emptied y)
 unfolding emptied
@@ -65,28 +56,25 @@ emptied-agrees y = record {
 }
 
 module _ (capacity : ℕ) (start : List Row) where
-  fresh : NoneApply (setUpRefusals capacity (lent start)) → Kept capacity start (λ k. empty) (map emptied start)
+  fresh : NoneApply (setUpRefusals capacity start) → Kept capacity start (λ k. empty) (map emptied start)
   fresh x =
-      let table = none-left (tableRefusals capacity (lent start)) (eachPlace (freshRows (lent start)) (lent start .count)) x in
-      let c = emptied-count start in
-      let eight = count-high capacity (lent start) table in
+      let table = none-left (tableRefusals capacity (length start)) (eachPlace (freshRows start) (length start)) x in
+      let c : length (map emptied start) ≡ length start = length-map start emptied in
       record {
-        clear = to-clear capacity (lent (map emptied start)) (same-table capacity (lent start) (lent (map emptied start)) c table)
+        clear = to-clear capacity (map emptied start) (subst (λ (n : ℕ). NoneApply (tableRefusals capacity n)) (sym c) table)
             (set-up-sounds capacity start x);
-        count-is = c ∙ lent-count start;
+        count-is = c;
         each = λ k h.
-            let below : k < 8 = omega (arith, h, c, eight) in
-            let l : k < length start = subst (λ (n : ℕ). k < n) (c ∙ lent-count start) h in
-            subst (Agrees (maxOf start k) (wantedOf start k) empty) (sym (emptied-row start k below l ∙ ap emptied (lent-row start k below)))
-            (emptied-agrees (getD start k noRow));
+            let l : k < length start = subst (λ (n : ℕ). k < n) c h in
+            subst (Agrees (maxOf start k) (wantedOf start k) empty) (sym (emptied-row start k l)) (emptied-agrees (rowOf start k));
       }
 
   pub set-up-kept : (ys : List Row) → SetUp capacity start ys → Kept capacity start (λ k. empty) ys
   unfolding setUpAnswer setUpRows
   set-up-kept ys s =
-      let rs = setUpRefusals capacity (lent start) in
+      let rs = setUpRefusals capacity start in
       let e : verdictOf rs ≡ success = sym (s .said .0) ∙ s .accepted in
-      let x = none-applied rs (set-up-numbered capacity (lent start)) (ap (λ (v : Verdict). v .number) e) in
+      let x = none-applied rs (set-up-numbered capacity start) (ap (λ (v : Verdict). v .number) e) in
       subst (Kept capacity start (λ k. empty)) (sym (s .said .1 ∙ all-missed (λ n p. start) (map emptied start) rs x)) (fresh x)
 
 -- ---- accepted or refused
@@ -105,25 +93,25 @@ module _ (capacity : ℕ) (start : List Row) (h : ℕ → Known) (ys : List Row)
       (subst (Kept capacity start h) (sym e) k)
 
   -- a row written, and what is known of its port
-  written-kept : (i : ℕ) (p : Known) (y : Row) → i < lent ys .count → Agrees (maxOf start i) (wantedOf start i) p y → SoundRows capacity (set ys i y)
+  written-kept : (i : ℕ) (p : Known) (y : Row) → i < length ys → Agrees (maxOf start i) (wantedOf start i) p y → SoundRows capacity (set ys i y)
       → Kept capacity start (changed i p h) (set ys i y)
   unfolding changed
   written-kept i p y at new sound =
-      let table = table-passes capacity (lent ys) (k .clear) in
-      let c = written-count ys i y in
+      let table = table-passes capacity ys (k .clear) in
+      let c : length (set ys i y) ≡ length ys = length-set ys i y in
       record {
-        clear = to-clear capacity (lent (set ys i y)) (same-table capacity (lent ys) (lent (set ys i y)) c table) sound;
+        clear = to-clear capacity (set ys i y) (subst (λ (n : ℕ). NoneApply (tableRefusals capacity n)) (sym c) table) sound;
         count-is = c ∙ k .count-is;
         each =
-            by-place capacity ys i y (count-high capacity (lent ys) table) at (λ (j : ℕ) (z : Row). Agrees (maxOf start j) (wantedOf start j)
+            by-place capacity ys i y at (λ (j : ℕ) (z : Row). Agrees (maxOf start j) (wantedOf start j)
             (changed i p h j) z)
             (subst (λ (q : Known). Agrees (maxOf start i) (wantedOf start i) q y) (sym (ap (λ (b : Bool). cond b p (h i)) (eq-eqb i i refl))) new)
-            (λ j l f. subst (λ (q : Known). Agrees (maxOf start j) (wantedOf start j) q (rowOf (lent ys) j)) (sym (ap (λ (b : Bool). cond b p
+            (λ j l f. subst (λ (q : Known). Agrees (maxOf start j) (wantedOf start j) q (rowOf ys j)) (sym (ap (λ (b : Bool). cond b p
             (h j)) (ne-eqb j i f))) (k .each j l));
       }
 
   accepted-kept : (v : Verdict) (port : ℕ) (p : Known) (y : Row) (zs : List Row) → v .number ≡ 0 → zs ≡ set ys (port - 1) y
-      → port - 1 < lent ys .count
+      → port - 1 < length ys
       → Agrees (maxOf start (port - 1)) (wantedOf start (port - 1)) p y → SoundRows capacity zs → Kept capacity start (ifAccepted v port p h) zs
   accepted-kept v port p y zs z e at new sound =
       subst (λ (g : ℕ → Known). Kept capacity start g zs) (sym (ap (λ (b : Bool). cond b (changed (port - 1) p h) h) (eq-eqb (v .number) 0 z)))
@@ -131,21 +119,21 @@ module _ (capacity : ℕ) (start : List Row) (h : ℕ → Known) (ys : List Row)
 
   -- ---- the figures are what the rows hold
 
-  pub same-besides : (i : ℕ) → together (besides i (heldAt (lent ys))) (lent ys .count) ≡ together (besides i (figures h)) (length start)
+  pub same-besides : (i : ℕ) → together (besides i (heldAt ys)) (length ys) ≡ together (besides i (figures h)) (length start)
   same-besides i =
-      others-agree i (heldAt (lent ys)) (figures h) (lent ys .count) (λ j l f. k .each j l .held-is)
+      others-agree i (heldAt ys) (figures h) (length ys) (λ j l f. k .each j l .held-is)
       ∙ ap (together (besides i (figures h))) (k .count-is)
 
-  pub same-together : allHeld (lent ys) ≡ together (figures h) (length start)
+  pub same-together : allHeld ys ≡ together (figures h) (length start)
   same-together =
-      same-figures (heldAt (lent ys)) (figures h) (lent ys .count) (λ j l. k .each j l .held-is) ∙ ap (together (figures h)) (k .count-is)
+      same-figures (heldAt ys) (figures h) (length ys) (λ j l. k .each j l .held-is) ∙ ap (together (figures h)) (k .count-is)
 
-  pub same-left : (port : ℕ) → leftFor capacity (lent ys) port ≡ capacity - together (besides (port - 1) (figures h)) (length start)
+  pub same-left : (port : ℕ) → leftFor capacity ys port ≡ capacity - together (besides (port - 1) (figures h)) (length start)
   same-left port = ap (λ (n : ℕ). capacity - n) (same-besides (port - 1))
 
-  module _ (port : ℕ) (at : port - 1 < lent ys .count) where
+  module _ (port : ℕ) (at : port - 1 < length ys) where
     abbrev row : Row
-    row = portRow (lent ys) port
+    row = portRow ys port
 
     abbrev of : Known
     of = h (port - 1)
@@ -153,7 +141,7 @@ module _ (capacity : ℕ) (start : List Row) (h : ℕ → Known) (ys : List Row)
     now-agrees : Agrees (maxOf start (port - 1)) (wantedOf start (port - 1)) of row
     now-agrees = k .each (port - 1) at
 
-    pub same-present : presentFor capacity (lent ys) port ≡ smaller capacity (length start) (maxOf start) h port
+    pub same-present : presentFor capacity ys port ≡ smaller capacity (length start) (maxOf start) h port
     unfolding presentFor
     same-present = ap₂ min (now-agrees .max-is) (same-left port)
 
@@ -168,12 +156,12 @@ module _ (capacity : ℕ) (start : List Row) (h : ℕ → Known) (ys : List Row)
         → Agrees (maxOf start (port - 1)) (wantedOf start (port - 1)) (record {
           cable = cable;
           list = ruleList (offered capacity
-              (lent ys) port cable);
+              ys port cable);
           present = smaller capacity (length start) (maxOf start) h port;
           figure = figure;
         }) (offered capacity
-        (lent ys) port cable)
-    unfolding offered
+        ys port cable)
+    unfolding offering presentFor
     offer-agrees cable figure e = record {
       max-is = now-agrees .max-is;
       pps-is = now-agrees .pps-is;
@@ -204,14 +192,14 @@ module _ (capacity : ℕ) (start : List Row) (h : ℕ → Known) (ys : List Row)
 
 module _ (capacity : ℕ) (start : List Row) (h : ℕ → Known) (ys : List Row) (k : Kept capacity start h ys) where
   sound : SoundRows capacity ys
-  sound = of-clear capacity (lent ys) (k .clear)
+  sound = of-clear capacity ys (k .clear)
 
   module _ (port cable : ℕ) (r : Listing) (zs : List Row) (e : SharesAttach ys capacity port cable r zs) where
     abbrev attach-table : List Refusal
-    attach-table = attachRefusals capacity (lent ys) port cable
+    attach-table = attachRefusals capacity ys port cable
 
     abbrev attach-writes : Row
-    attach-writes = offered capacity (lent ys) port cable
+    attach-writes = offered capacity ys port cable
 
     abbrev attach-tells : Known
     attach-tells = record { cable = cable; list = r .list; present = smaller capacity (length start) (maxOf start) h port; figure = 15 }
@@ -228,11 +216,11 @@ module _ (capacity : ℕ) (start : List Row) (h : ℕ → Known) (ys : List Row)
     unfolding attachAnswer attachRows
     attach-accepted x =
         let told : r ≡ record { verdict = success; list = ruleList attach-writes } = e .0 ∙ all-missed writeRefused _ attach-table x in
-        let port-x = none-left (portRefusals capacity (lent ys) port) (cannotAttach (lent ys) port cable) x in
-        let at = port-at capacity (lent ys) port port-x in
-        let free = none-right (portRefusals capacity (lent ys) port) (cannotAttach (lent ys) port cable) x .1 .0 in
-        let held = sound-empty (portRow (lent ys) port) (row-sound capacity (lent ys) port port-x) (not-false (eqb (portRow
-        (lent ys) port .cable) 0) free) .held-15 in
+        let port-x = none-left (portRefusals capacity ys port) (cannotAttach (portRow ys port) port cable) x in
+        let at = port-at capacity ys port port-x in
+        let free = none-right (portRefusals capacity ys port) (cannotAttach (portRow ys port) port cable) x .1 .0 in
+        let held = sound-empty (portRow ys port) (row-sound capacity ys port port-x) (not-false (eqb (portRow
+        ys port .cable) 0) free) .held-15 in
         accepted-kept capacity start h ys k (r .verdict) port attach-tells attach-writes zs (ap (λ (l : Listing). l .verdict .number) told)
         (e .1 ∙ all-missed (λ n q. ys) _ attach-table x) at
         (subst (λ (l : Words). Agrees (maxOf start (port - 1)) (wantedOf start (port - 1))
@@ -241,14 +229,14 @@ module _ (capacity : ℕ) (start : List Row) (h : ℕ → Known) (ys : List Row)
         (attach-keeps capacity ys sound port cable r zs e)
 
     attach-kept : Kept capacity start (learnt capacity (length start) (maxOf start) h (attached port cable r)) zs
-    attach-kept = ⊎-elim attach-accepted attach-refused (either attach-table (attach-numbered capacity (lent ys) port cable))
+    attach-kept = ⊎-elim attach-accepted attach-refused (either attach-table (attach-numbered capacity ys port cable))
 
   module _ (port : ℕ) (r : Listing) (zs : List Row) (e : SharesAdvertise ys capacity port r zs) where
     abbrev advertise-table : List Refusal
-    advertise-table = useRefusals capacity (lent ys) port
+    advertise-table = useRefusals capacity ys port
 
     abbrev advertise-writes : Row
-    advertise-writes = offered capacity (lent ys) port (portRow (lent ys) port .cable)
+    advertise-writes = offered capacity ys port (portRow ys port .cable)
 
     abbrev advertise-tells : Known
     advertise-tells = record {
@@ -271,7 +259,7 @@ module _ (capacity : ℕ) (start : List Row) (h : ℕ → Known) (ys : List Row)
     unfolding advertiseAnswer advertiseRows
     advertise-accepted x =
         let told : r ≡ record { verdict = success; list = ruleList advertise-writes } = e .0 ∙ all-missed writeRefused _ advertise-table x in
-        let at = port-at capacity (lent ys) port (use-port capacity (lent ys) port x) in
+        let at = port-at capacity ys port (use-port capacity ys port x) in
         let now = k .each (port - 1) at in
         accepted-kept capacity start h ys k (r .verdict) port advertise-tells advertise-writes zs (ap (λ
         (l : Listing). l .verdict .number) told) (e .1 ∙ all-missed (λ n q. ys) _ advertise-table x) at
@@ -292,18 +280,18 @@ module _ (capacity : ℕ) (start : List Row) (h : ℕ → Known) (ys : List Row)
           figure = h
               (port - 1) .figure;
         }) advertise-writes)
-        (now .cable-is) (offer-agrees capacity start h ys k port at (portRow (lent ys) port .cable) (h (port - 1) .figure) (now .held-is))))
+        (now .cable-is) (offer-agrees capacity start h ys k port at (portRow ys port .cable) (h (port - 1) .figure) (now .held-is))))
         (advertise-keeps capacity ys sound port r zs e)
 
     advertise-kept : Kept capacity start (learnt capacity (length start) (maxOf start) h (advertised port r)) zs
-    advertise-kept = ⊎-elim advertise-accepted advertise-refused (either advertise-table (use-numbered capacity (lent ys) port))
+    advertise-kept = ⊎-elim advertise-accepted advertise-refused (either advertise-table (use-numbered capacity ys port))
 
   module _ (port word : ℕ) (r : Verdict) (zs : List Row) (e : SharesRequest ys capacity port word r zs) where
     abbrev request-table : List Refusal
-    request-table = requestRefusals capacity (lent ys) port word
+    request-table = requestRefusals capacity ys port word
 
     abbrev request-writes : Row
-    request-writes = holding (portRow (lent ys) port) (newHeld (portRow (lent ys) port) word)
+    request-writes = holding (portRow ys port) (newHeld (portRow ys port) word)
 
     abbrev request-tells : Known
     request-tells = record { cable = h (port - 1) .cable; list = h (port - 1) .list; present = h (port - 1) .present; figure = newFigure h port word }
@@ -316,35 +304,35 @@ module _ (capacity : ℕ) (start : List Row) (h : ℕ → Known) (ys : List Row)
     request-accepted : NoneApply request-table → Kept capacity start (ifAccepted r port request-tells h) zs
     unfolding requestAnswer requestRows
     request-accepted x =
-        let u = none-left (useRefusals capacity (lent ys) port) (ownRefusals (lent ys) port word ++ noPowerNow capacity (lent ys) port word) x in
-        let at = port-at capacity (lent ys) port (use-port capacity (lent ys) port u) in
-        let cabled = sym (same-cable capacity start h ys k port at) ∙ in-use capacity (lent ys) port u in
+        let u = none-left (useRefusals capacity ys port) (ownRefusals (portRow ys port) word ++ noPowerNow (leftFor capacity ys port) (portRow ys port) port word) x in
+        let at = port-at capacity ys port (use-port capacity ys port u) in
+        let cabled = sym (same-cable capacity start h ys k port at) ∙ in-use capacity ys port u in
         accepted-kept capacity start h ys k r port request-tells request-writes zs (ap (λ (v : Verdict). v .number) (e .0
         ∙ all-missed verdict success request-table x)) (e .1 ∙ all-missed (λ n q. ys) _ request-table x) at
         (hold-agrees capacity start h ys k port at cabled word) (request-keeps capacity ys sound port word r zs e)
 
     request-kept : Kept capacity start (learnt capacity (length start) (maxOf start) h (requested port word r)) zs
-    request-kept = ⊎-elim request-accepted request-refused (either request-table (request-numbered capacity (lent ys) port word))
+    request-kept = ⊎-elim request-accepted request-refused (either request-table (request-numbered capacity ys port word))
 
   module _ (port : ℕ) (r : Verdict) (zs : List Row) (e : SharesDetach ys capacity port r zs) where
     abbrev detach-table : List Refusal
-    detach-table = useRefusals capacity (lent ys) port
+    detach-table = useRefusals capacity ys port
 
     detach-refused : (verdictOf detach-table .number ≡ 0 → ⊥) → Kept capacity start (ifAccepted r port empty h) zs
     unfolding detachAnswer detachRows
     detach-refused f = refused-kept capacity start h ys k r port empty zs (λ z. f (sym (ap (λ (v : Verdict). v .number) (e .0)) ∙ z)) (e .1
-        ∙ refused-so (λ n q. ys) detach-table f (set ys (port - 1) (emptied (portRow (lent ys) port))))
+        ∙ refused-so (λ n q. ys) detach-table f (set ys (port - 1) (emptied (portRow ys port))))
 
     detach-accepted : NoneApply detach-table → Kept capacity start (ifAccepted r port empty h) zs
     unfolding detachAnswer detachRows
     detach-accepted x =
-        let at = port-at capacity (lent ys) port (use-port capacity (lent ys) port x) in
-        accepted-kept capacity start h ys k r port empty (emptied (portRow (lent ys) port)) zs (ap (λ (v : Verdict). v .number) (e .0
+        let at = port-at capacity ys port (use-port capacity ys port x) in
+        accepted-kept capacity start h ys k r port empty (emptied (portRow ys port)) zs (ap (λ (v : Verdict). v .number) (e .0
         ∙ all-missed verdict success detach-table x)) (e .1 ∙ all-missed (λ n q. ys) _ detach-table x) at
         (empty-agrees capacity start h ys k port at) (detach-keeps capacity ys sound port r zs e)
 
     detach-kept : Kept capacity start (learnt capacity (length start) (maxOf start) h (detached port r)) zs
-    detach-kept = ⊎-elim detach-accepted detach-refused (either detach-table (use-numbered capacity (lent ys) port))
+    detach-kept = ⊎-elim detach-accepted detach-refused (either detach-table (use-numbered capacity ys port))
 
   pub step-kept : (e : Event) (zs : List Row) → Step capacity ys e zs → Kept capacity start (learnt capacity (length start) (maxOf start) h e) zs
   step-kept (attached port cable r) zs s = attach-kept port cable r zs s

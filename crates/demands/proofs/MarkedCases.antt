@@ -22,11 +22,11 @@ use Rattle.rules.specs.Building.{objectFor, builtOf}
 use Rattle.requests.specs.Limits.{bitSet, avsTop, avsLimit}
 use Rattle.requests.specs.Answering.{answerOf}
 use Rattle.ports.specs.declared.Row.{Row}
-use Rattle.ports.specs.Rows.{together, besides, emptied, presentFor, offered, holding}
+use Rattle.ports.specs.Rows.{together, besides, emptied, presentFor, offering, holding}
 use Rattle.ports.specs.Soundness.{soundRow}
 use Rattle.ports.specs.RuleLists.{rulePps, ruleProfile}
 use Rattle.ports.specs.Requests.{powerOf, heldFor}
-use Rattle.ports.specs.Lending.{lent, setUpAnswer, setUpRows, attachAnswer, attachRows, advertiseAnswer, advertiseRows, requestAnswer, requestRows}
+use Rattle.ports.specs.Lending.{setUpAnswer, setUpRows, attachAnswer, attachRows, advertiseAnswer, advertiseRows, requestAnswer, requestRows}
 
 -- what a call answers: a list with its verdict, or a verdict alone; and the rows that a sharing call leaves
 pub data Answer : Type 0 where
@@ -138,5 +138,5 @@ table =
     ∷ []
 
 pub marked-cases : map given table ≡ map said table
-unfolding firstOf eachPlace bits decodeOf reservedSet outOfBounds over100W mayFollow isFixed5V hasFixed avsDiffers bitSet avsTop avsLimit answerOf sevenTo downOf upOf wordOf defaultOf baseSlots progSlots builtCurrent progCurrent objectFor builtOf together besides emptied presentFor offered holding soundRow rulePps ruleProfile powerOf heldFor lent setUpAnswer setUpRows attachAnswer attachRows advertiseAnswer advertiseRows requestAnswer requestRows
+unfolding firstOf eachPlace bits decodeOf reservedSet outOfBounds over100W mayFollow isFixed5V hasFixed avsDiffers bitSet avsTop avsLimit answerOf sevenTo downOf upOf wordOf defaultOf baseSlots progSlots builtCurrent progCurrent objectFor builtOf together besides emptied presentFor offering holding soundRow rulePps ruleProfile powerOf heldFor setUpAnswer setUpRows attachAnswer attachRows advertiseAnswer advertiseRows requestAnswer requestRows
 marked-cases = refl

@@ -12,16 +12,17 @@ use Rattle.demands.proofs.Contracts.{Mv20ToMv25Answers, Mv20ToMv50Answe
 use Rattle.demands.proofs.Contracts.{DecodeAnswers, ReservedAnswers, EncodeAnswers, FixedWordAnswers, PpsWordAnswers, AvsWordAnswers}
 use Rattle.demands.proofs.Contracts.{ShapeAnswers, ReadAnswers, RefuseAnswers, WriteAnswers}
 use Rattle.rules.specs.declared.Profile.{Profile}
-use Rattle.demands.proofs.Contracts.{BadCableAnswers, DefaultAnswers, BuildAnswers, CheckAnswers}
+use Rattle.demands.proofs.Contracts.{BadCableAnswers, DefaultAnswers, BuildAnswers, CheckAnswers, WordAtAnswers}
 use Rattle.lists.specs.declared.Words.{Words}
-use Rattle.demands.proofs.Contracts.{PositionAnswers, TakeApartAnswers, AnswerAnswers, AnswerShapedAnswers}
+use Rattle.demands.proofs.Contracts.{PositionAnswers, TakeApartAnswers, AnswerAnswers, JudgeAnswers}
 use mathlib.Core.List.{List}
 use Rattle.steps.specs.declared.HalfWatts.{HalfWatts}
 use Rattle.verdicts.specs.declared.Verdict.{Verdict}
 use Rattle.lists.specs.declared.Listing.{Listing}
 use Rattle.ports.specs.declared.Row.{Row}
-use Rattle.ports.specs.declared.Ports.{Ports}
-use Rattle.demands.proofs.Contracts.{EmptiedAnswers, SetUpDecides, AttachDecides, AdvertiseDecides, RequestDecides, DetachDecides, RemainingDecides}
+use Rattle.ports.specs.declared.Standing.{Standing}
+use Rattle.demands.proofs.Contracts.{EmptiedAnswers, BeginAnswers, GoesOnAnswers, TakeRowAnswers, AllOrNoneAnswers, PlaceOfAnswers}
+use Rattle.demands.proofs.Contracts.{AttachDecides, AdvertiseDecides, OfferAnswers, RequestDecides, DetachDecides, RemainingDecides}
 use Rattle.board.specs.Promises.{SharesSetUp, SharesAttach, SharesAdvertise, SharesRequest, SharesDetach, SharesRemaining}
 
 abbrev pub Settled : {A R : Type 0} → (A → R → Type 0) → Type 0
@@ -129,6 +130,9 @@ build-settles p r s e f = only e f
 pub check-settles : (p : Profile) → Settled (CheckAnswers p)
 check-settles p l r s e f = only e f
 
+pub word-at-settles : (p : Profile) → Settled (WordAtAnswers p)
+word-at-settles p place r s e f = only e f
+
 -- ---- requests
 
 pub position-settles : Settled PositionAnswers
@@ -140,30 +144,45 @@ take-apart-settles o w r s e f = only e f
 pub answer-settles : (l : Words) → Settled (AnswerAnswers l)
 answer-settles l w r s e f = only e f
 
-pub answer-shaped-settles : (l : Words) → Settled (AnswerShapedAnswers l)
-answer-shaped-settles l w r s e f = only e f
+pub judge-settles : (o : Object) → Settled (JudgeAnswers o)
+judge-settles o w r s e f = only e f
 
 -- ---- ports, by value
 
 pub emptied-settles : Settled EmptiedAnswers
 emptied-settles y r s e f = only e f
 
-pub set-up-settles : (t : Ports) → Settled (SetUpDecides t)
-set-up-settles t capacity r s e f = only e f
+pub begin-settles : (count : ℕ) → Settled (BeginAnswers count)
+begin-settles count capacity r s e f = only e f
 
-pub attach-settles : (t : Ports) (capacity : HalfWatts) (port : ℕ) → Settled (AttachDecides t capacity port)
-attach-settles t capacity port cable r s e f = only e f
+pub goes-on-settles : (t : Standing) → Settled (GoesOnAnswers t)
+goes-on-settles t judged r s e f = only e f
 
-pub advertise-settles : (t : Ports) (capacity : HalfWatts) → Settled (AdvertiseDecides t capacity)
-advertise-settles t capacity port r s e f = only e f
+pub take-row-settles : (t : Standing) (y : Row) (place : ℕ) → Settled (TakeRowAnswers t y place)
+take-row-settles t y place fresh r s e f = only e f
 
-pub request-settles : (t : Ports) (capacity : HalfWatts) (port : ℕ) → Settled (RequestDecides t capacity port)
-request-settles t capacity port word r s e f = only e f
+pub all-or-none-settles : Settled AllOrNoneAnswers
+all-or-none-settles t r s e f = only e f
 
-pub detach-settles : (t : Ports) (capacity : HalfWatts) → Settled (DetachDecides t capacity)
-detach-settles t capacity port r s e f = only e f
+pub place-of-settles : (t : Standing) → Settled (PlaceOfAnswers t)
+place-of-settles t port r s e f = only e f
 
-pub remaining-settles : (t : Ports) → Settled (RemainingDecides t)
+pub attach-settles : (t : Standing) (y : Row) (capacity : HalfWatts) (port : ℕ) → Settled (AttachDecides t y capacity port)
+attach-settles t y capacity port cable r s e f = only e f
+
+pub advertise-settles : (t : Standing) (y : Row) (capacity : HalfWatts) → Settled (AdvertiseDecides t y capacity)
+advertise-settles t y capacity port r s e f = only e f
+
+pub offer-settles : Settled OfferAnswers
+offer-settles c r s e f = only e f
+
+pub request-settles : (t : Standing) (y : Row) (capacity : HalfWatts) (port : ℕ) → Settled (RequestDecides t y capacity port)
+request-settles t y capacity port word r s e f = only e f
+
+pub detach-settles : (t : Standing) (y : Row) (capacity : HalfWatts) → Settled (DetachDecides t y capacity)
+detach-settles t y capacity port r s e f = only e f
+
+pub remaining-settles : (t : Standing) → Settled (RemainingDecides t)
 remaining-settles t capacity r s e f = only e f
 
 -- ---- over lent rows: the answer and every row at exit, for any rows at entry

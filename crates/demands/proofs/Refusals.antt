@@ -35,9 +35,10 @@ use Rattle.rules.specs.Checking.{checkRefusals}
 use Rattle.rules.proofs.Defaults.{default-verdict, default-empty}
 use Rattle.rules.proofs.Builds.{build-numbered, build-verdict, build-empty}
 use Rattle.rules.proofs.Checks.{check-numbered, check-verdict}
-use Rattle.requests.specs.Answering.{answerRefusals, shapedRefusals}
-use Rattle.requests.proofs.Answers.{answer-numbered, answer-verdict, shaped-numbered, shaped-verdict}
-use Rattle.demands.proofs.Contracts.{DecodeAnswers, EncodeAnswers, ShapeAnswers, ReadAnswers, WriteAnswers, DefaultAnswers, BuildAnswers, CheckAnswers, AnswerAnswers, AnswerShapedAnswers}
+use Rattle.requests.specs.Judging.{refusalsOf}
+use Rattle.requests.specs.Answering.{answerRefusals}
+use Rattle.requests.proofs.Answers.{answer-numbered, answer-verdict, judged-numbered, judged-verdict}
+use Rattle.demands.proofs.Contracts.{DecodeAnswers, EncodeAnswers, ShapeAnswers, ReadAnswers, WriteAnswers, DefaultAnswers, BuildAnswers, CheckAnswers, AnswerAnswers, JudgeAnswers}
 
 -- ---- one word
 
@@ -101,5 +102,6 @@ check-refusals p l r e = answers r (checkRefusals p l) (exactly (checkRefusals p
 pub answer-refusals : (l : Words) (w : ℕ) (r : Verdict) → AnswerAnswers l w r → Answers r (answerRefusals l w)
 answer-refusals l w r e = answers r (answerRefusals l w) (exactly (answerRefusals l w) (answer-numbered l w)) (e ∙ answer-verdict l w)
 
-pub answer-shaped-refusals : (l : Words) (w : ℕ) (r : Verdict) → AnswerShapedAnswers l w r → Answers r (shapedRefusals l w)
-answer-shaped-refusals l w r e = answers r (shapedRefusals l w) (exactly (shapedRefusals l w) (shaped-numbered l w)) (e ∙ shaped-verdict l w)
+-- one object and no list: its rows alone
+pub judge-refusals : (o : Object) (w : ℕ) (r : Verdict) → JudgeAnswers o w r → Answers r (refusalsOf o w)
+judge-refusals o w r e = answers r (refusalsOf o w) (exactly (refusalsOf o w) (judged-numbered o w)) (e ∙ judged-verdict o w)

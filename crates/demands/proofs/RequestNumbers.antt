@@ -7,6 +7,7 @@ use mathlib.Core.List.{List, [], _∷_, _++_}
 use Prim.Native.Nat.{ℕ, zero, suc, _≤_}
 use native.Mathlib.Omega.{arith}
 use lib.Dec.{leb, ltb, eqb}
+use lib.ListN.{length}
 use borrow.Author.Tests.{eqb-true, eqb-false, leb-true}
 use Rattle.verdicts.specs.declared.Verdict.{Verdict}
 use Rattle.verdicts.specs.Refusals.{Refusal, refusal, eachPlace, firstOf, verdict, success, verdictOf}
@@ -14,12 +15,11 @@ use Rattle.verdicts.proofs.First.{NoneApply, none-applied, stops, goes-on}
 use Rattle.steps.specs.Ranges.{within}
 use Rattle.requests.proofs.Answers.{answer-numbered, answer-verdict}
 use Rattle.ports.specs.declared.Row.{Row}
-use Rattle.ports.specs.declared.Ports.{Ports}
-use Rattle.ports.specs.Rows.{portRow, leftFor}
+use Rattle.ports.specs.Rows.{portRow, allHeld, leftFor}
 use Rattle.ports.specs.RuleLists.{ruleList}
 use Rattle.ports.specs.Requests.{newHeld}
 use Rattle.ports.specs.Refusing.{tableRefusals, faultRows, sumFault, soundRefusals, remainingRefusals, noSuchPort, portRefusals, notAttached, useRefusals, ownRefusals, noPowerNow}
-use Rattle.ports.specs.Lending.{lent, requestAnswer}
+use Rattle.ports.specs.Lending.{requestAnswer}
 use Rattle.ports.proofs.RuleLists.{attached-offerable}
 use Rattle.ports.proofs.Passing.{use-numbered, attached}
 use Rattle.board.specs.Promises.{SharesRequest}
@@ -52,13 +52,13 @@ module _ (test : ℕ → Bool) where
 abbrev pub ofSharing : ℕ → Bool
 ofSharing n = within 30 37 n
 
-use-shares : (capacity : ℕ) (t : Ports) (port : ℕ) → allPass ofSharing (useRefusals capacity t port) ≡ true
+use-shares : (capacity : ℕ) (t : List Row) (port : ℕ) → allPass ofSharing (useRefusals capacity t port) ≡ true
 use-shares capacity t port =
-    pass-append ofSharing (portRefusals capacity t port) (notAttached t port)
-    (pass-append ofSharing (remainingRefusals capacity t) (noSuchPort t port)
-    (pass-append ofSharing (tableRefusals capacity t) (soundRefusals capacity t) refl
-    (pass-append ofSharing (eachPlace (faultRows t) (t .count)) (sumFault capacity t) (pass-places ofSharing (faultRows t) (λ k. refl)
-    (t .count)) refl)) refl) refl
+    pass-append ofSharing (portRefusals capacity t port) (notAttached (portRow t port) port)
+    (pass-append ofSharing (remainingRefusals capacity t) (noSuchPort (length t) port)
+    (pass-append ofSharing (tableRefusals capacity (length t)) (soundRefusals capacity t) refl
+    (pass-append ofSharing (eachPlace (faultRows t) (length t)) (sumFault capacity (allHeld t)) (pass-places ofSharing (faultRows t) (λ k. refl)
+    (length t)) refl)) refl) refl
 
 -- success, the request's own refusal, or one of sharing
 pub data Outcome (r : Verdict) : Type 0 where
@@ -67,47 +67,44 @@ pub data Outcome (r : Verdict) : Type 0 where
   shared : ofSharing (r .number) ≡ true → Outcome r
 
 module _ (ys : List Row) (capacity port word : ℕ) where
-  abbrev t : Ports
-  t = lent ys
-
   abbrev rest : List Refusal
-  rest = ownRefusals t port word ++ noPowerNow capacity t port word
+  rest = ownRefusals (portRow ys port) word ++ noPowerNow (leftFor capacity ys port) (portRow ys port) port word
 
   of-verdict : (r s : Verdict) → r ≡ s → Outcome s → Outcome r
   of-verdict r s e o = subst Outcome (sym e) o
 
   -- past the port: the list's own answer, then 36
-  past-port : NoneApply (useRefusals capacity t port) → Outcome (verdictOf rest)
+  past-port : NoneApply (useRefusals capacity ys port) → Outcome (verdictOf rest)
   unfolding firstOf
-  past-port x = go (eqb (verdictOf (ownRefusals t port word) .number) 0) refl where
+  past-port x = go (eqb (verdictOf (ownRefusals (portRow ys port) word) .number) 0) refl where
     last : (b : Bool) → Outcome (verdictOf (refusal b 36 port ∷ []))
     last true = shared refl
     last false = accepted refl
 
-    go : (b : Bool) → eqb (verdictOf (ownRefusals t port word) .number) 0 ≡ b → Outcome (verdictOf rest)
+    go : (b : Bool) → eqb (verdictOf (ownRefusals (portRow ys port) word) .number) 0 ≡ b → Outcome (verdictOf rest)
     go true e =
-        of-verdict _ _ (goes-on verdict (ownRefusals t port word) (noPowerNow capacity t port word) success (answer-numbered (ruleList
-        (portRow t port)) word) (eqb-true (verdictOf (ownRefusals t port word) .number) 0 e))
-        (last (ltb (leftFor capacity t port) (newHeld (portRow t port) word)))
+        of-verdict _ _ (goes-on verdict (ownRefusals (portRow ys port) word) (noPowerNow (leftFor capacity ys port) (portRow ys port) port word) success (answer-numbered (ruleList
+        (portRow ys port)) word) (eqb-true (verdictOf (ownRefusals (portRow ys port) word) .number) 0 e))
+        (last (ltb (leftFor capacity ys port) (newHeld (portRow ys port) word)))
     go false e =
-        let f = eqb-false (verdictOf (ownRefusals t port word) .number) 0 e in
-        let v = answer-verdict (ruleList (portRow t port)) word in
-        of-verdict _ _ (stops verdict (ownRefusals t port word) (noPowerNow capacity t port word) success f)
-        (own (subst OwnRefusal v (refused-by-own (portRow t port) (attached-offerable (portRow t port) (attached capacity t port x)) word
+        let f = eqb-false (verdictOf (ownRefusals (portRow ys port) word) .number) 0 e in
+        let v = answer-verdict (ruleList (portRow ys port)) word in
+        of-verdict _ _ (stops verdict (ownRefusals (portRow ys port) word) (noPowerNow (leftFor capacity ys port) (portRow ys port) port word) success f)
+        (own (subst OwnRefusal v (refused-by-own (portRow ys port) (attached-offerable (portRow ys port) (attached capacity ys port x)) word
         (λ z. f (sym (ap (λ (u : Verdict). u .number) v) ∙ z)))))
 
   pub request-outcome : (r : Verdict) (zs : List Row) → SharesRequest ys capacity port word r zs → Outcome r
   unfolding requestAnswer
-  request-outcome r zs e = of-verdict r _ (e .0) (go (eqb (verdictOf (useRefusals capacity t port) .number) 0) refl) where
-    go : (b : Bool) → eqb (verdictOf (useRefusals capacity t port) .number) 0 ≡ b → Outcome (verdictOf (useRefusals capacity t port ++ rest))
+  request-outcome r zs e = of-verdict r _ (e .0) (go (eqb (verdictOf (useRefusals capacity ys port) .number) 0) refl) where
+    go : (b : Bool) → eqb (verdictOf (useRefusals capacity ys port) .number) 0 ≡ b → Outcome (verdictOf (useRefusals capacity ys port ++ rest))
     go true q =
-        let z = eqb-true (verdictOf (useRefusals capacity t port) .number) 0 q in
-        of-verdict _ _ (goes-on verdict (useRefusals capacity t port) rest success (use-numbered capacity t port) z)
-        (past-port (none-applied (useRefusals capacity t port) (use-numbered capacity t port) z))
+        let z = eqb-true (verdictOf (useRefusals capacity ys port) .number) 0 q in
+        of-verdict _ _ (goes-on verdict (useRefusals capacity ys port) rest success (use-numbered capacity ys port) z)
+        (past-port (none-applied (useRefusals capacity ys port) (use-numbered capacity ys port) z))
     go false q =
-        let f = eqb-false (verdictOf (useRefusals capacity t port) .number) 0 q in
-        of-verdict _ _ (stops verdict (useRefusals capacity t port) rest success f)
-        (shared (number-passes ofSharing (useRefusals capacity t port) (use-shares capacity t port) f))
+        let f = eqb-false (verdictOf (useRefusals capacity ys port) .number) 0 q in
+        of-verdict _ _ (stops verdict (useRefusals capacity ys port) rest success f)
+        (shared (number-passes ofSharing (useRefusals capacity ys port) (use-shares capacity ys port) f))
 
   -- "so the shape refusals never come out of the request call": these are 10 to 17
   pub never-of-shape : (r : Verdict) (zs : List Row) → SharesRequest ys capacity port word r zs → 10 ≤ r .number → r .number ≤ 17 → ⊥

@@ -10,12 +10,14 @@ use borrow.Author.Tests.{leb-true, eqb-true}
 use Rattle.verdicts.specs.declared.Verdict.{Verdict}
 use Rattle.verdicts.specs.Refusals.{Refusal, refusal, firstOf, verdict, success, verdictOf}
 use Rattle.verdicts.proofs.First.{NoneApply, onward, all-missed}
+use Rattle.objects.specs.declared.Decoded.{Decoded}
+use Rattle.objects.specs.declared.Decoded.the-variants.{Known, NotAllowed}
 use Rattle.lists.specs.Shape.{shapeRefusals}
 use Rattle.lists.proofs.Shapes.{count-low, count-high}
 use Rattle.rules.specs.Building.{builtWords}
 use Rattle.rules.specs.Checking.{checkRefusals, checkedOf}
 use Rattle.rules.proofs.Checks.{check-verdict}
-use Rattle.requests.specs.Answering.{answerOf}
+use Rattle.requests.specs.Answering.{namedBy, namedRefusals, answerOf}
 use Rattle.ports.specs.declared.Row.{Row}
 use Rattle.ports.specs.RuleLists.{ruleProfile, ruleList}
 use Rattle.ports.proofs.RuleLists.{Offerable, rule-profile-passes, rule-list-is, rule-list-clear}
@@ -53,6 +55,10 @@ own-after xs ys x t f =
     let e : verdictOf (xs ++ ys) ≡ verdictOf ys = onward verdict success xs ys ∙ all-missed verdict (verdictOf ys) xs x in
     subst OwnRefusal (sym e) (own-rows ys t (λ z. f (ap (λ (v : Verdict). v .number) e ∙ z)))
 
+own-named : (d : Decoded) (w : ℕ) → allOwn (namedRefusals d w) ≡ true
+own-named (Known o) w = refl
+own-named NotAllowed w = refl
+
 -- ---- the rule list
 
 module _ (y : Row) (o : Offerable y) where
@@ -73,4 +79,4 @@ module _ (y : Row) (o : Offerable y) where
   -- "34 or 35, the request's own, 36": a request on it is never refused for the list's shape, only by a number of its own
   pub refused-by-own : (w : ℕ) → (answerOf (ruleList y) w .number ≡ 0 → ⊥) → OwnRefusal (answerOf (ruleList y) w)
   unfolding answerOf
-  refused-by-own w f = own-after (shapeRefusals (ruleList y)) _ (rule-list-clear y o) refl f
+  refused-by-own w f = own-after (shapeRefusals (ruleList y)) _ (rule-list-clear y o) (own-named (namedBy (ruleList y) w) w) f

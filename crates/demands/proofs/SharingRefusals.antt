@@ -14,8 +14,7 @@ use Rattle.rules.specs.Profiles.{halfWatts}
 use Rattle.ports.specs.declared.Row.{Row}
 use Rattle.ports.specs.declared.RemainingPower.{RemainingPower}
 use Rattle.ports.specs.Refusing.{setUpRefusals, attachRefusals, useRefusals, requestRefusals, remainingRefusals}
-use Rattle.ports.specs.Deciding.{noPowerLeft, powerLeft}
-use Rattle.ports.specs.Lending.{lent, unlessRefused, setUpAnswer, setUpRows, attachAnswer, attachRows, advertiseAnswer, advertiseRows, requestAnswer, requestRows, detachAnswer, detachRows, remainingAnswer}
+use Rattle.ports.specs.Lending.{noPowerLeft, unlessRefused, setUpAnswer, setUpRows, attachAnswer, attachRows, advertiseAnswer, advertiseRows, requestAnswer, requestRows, detachAnswer, detachRows, remainingAnswer}
 use Rattle.ports.proofs.Passing.{set-up-numbered, attach-numbered, use-numbered, request-numbered, remaining-numbered}
 use Rattle.board.specs.Promises.{SharesSetUp, SharesAttach, SharesAdvertise, SharesRequest, SharesDetach, SharesRemaining}
 use Rattle.demands.proofs.Refusals.{Answers, answers}
@@ -38,63 +37,63 @@ module _ (rs : List Refusal) (t : numbered rs ≡ true) where
 
 module _ (ys : List Row) (capacity : ℕ) where
   pub set-up-refusals : (r : Verdict) (zs : List Row) → SharesSetUp ys capacity r zs
-      → Answers r (setUpRefusals capacity (lent ys)) × ((r ≡ success → ⊥) → zs ≡ ys)
+      → Answers r (setUpRefusals capacity ys) × ((r ≡ success → ⊥) → zs ≡ ys)
   unfolding setUpAnswer setUpRows
   set-up-refusals r zs e =
-      let rs = setUpRefusals capacity (lent ys) in
-      let t = set-up-numbered capacity (lent ys) in (
+      let rs = setUpRefusals capacity ys in
+      let t = set-up-numbered capacity ys in (
         answers r rs (exactly rs t) (e .0),
         λ f. e .1 ∙ unwritten rs t ys _ (λ z. f (e .0 ∙ z)),
       )
 
   pub attach-refusals : (port cable : ℕ) (r : Listing) (zs : List Row) → SharesAttach ys capacity port cable r zs
-      → Answers (r .verdict) (attachRefusals capacity (lent ys) port cable) × ((r .verdict ≡ success → ⊥) → (r .list ≡ noWords) × (zs ≡ ys))
+      → Answers (r .verdict) (attachRefusals capacity ys port cable) × ((r .verdict ≡ success → ⊥) → (r .list ≡ noWords) × (zs ≡ ys))
   unfolding attachAnswer attachRows
   attach-refusals port cable r zs e =
-      let rs = attachRefusals capacity (lent ys) port cable in
-      let t = attach-numbered capacity (lent ys) port cable in
+      let rs = attachRefusals capacity ys port cable in
+      let t = attach-numbered capacity ys port cable in
       let v = ap (λ (l : Listing). l .verdict) (e .0) ∙ listing-verdict rs t _ refl in (
         answers (r .verdict) rs (exactly rs t) v,
         λ f. (ap (λ (l : Listing). l .list) (e .0) ∙ listing-empty rs t _ (λ z. f (v ∙ z)), e .1 ∙ unwritten rs t ys _ (λ z. f (v ∙ z))),
       )
 
   pub advertise-refusals : (port : ℕ) (r : Listing) (zs : List Row) → SharesAdvertise ys capacity port r zs
-      → Answers (r .verdict) (useRefusals capacity (lent ys) port) × ((r .verdict ≡ success → ⊥) → (r .list ≡ noWords) × (zs ≡ ys))
+      → Answers (r .verdict) (useRefusals capacity ys port) × ((r .verdict ≡ success → ⊥) → (r .list ≡ noWords) × (zs ≡ ys))
   unfolding advertiseAnswer advertiseRows
   advertise-refusals port r zs e =
-      let rs = useRefusals capacity (lent ys) port in
-      let t = use-numbered capacity (lent ys) port in
+      let rs = useRefusals capacity ys port in
+      let t = use-numbered capacity ys port in
       let v = ap (λ (l : Listing). l .verdict) (e .0) ∙ listing-verdict rs t _ refl in (
         answers (r .verdict) rs (exactly rs t) v,
         λ f. (ap (λ (l : Listing). l .list) (e .0) ∙ listing-empty rs t _ (λ z. f (v ∙ z)), e .1 ∙ unwritten rs t ys _ (λ z. f (v ∙ z))),
       )
 
   pub request-refusals : (port word : ℕ) (r : Verdict) (zs : List Row) → SharesRequest ys capacity port word r zs
-      → Answers r (requestRefusals capacity (lent ys) port word) × ((r ≡ success → ⊥) → zs ≡ ys)
+      → Answers r (requestRefusals capacity ys port word) × ((r ≡ success → ⊥) → zs ≡ ys)
   unfolding requestAnswer requestRows
   request-refusals port word r zs e =
-      let rs = requestRefusals capacity (lent ys) port word in
-      let t = request-numbered capacity (lent ys) port word in (
+      let rs = requestRefusals capacity ys port word in
+      let t = request-numbered capacity ys port word in (
         answers r rs (exactly rs t) (e .0),
         λ f. e .1 ∙ unwritten rs t ys _ (λ z. f (e .0 ∙ z)),
       )
 
   pub detach-refusals : (port : ℕ) (r : Verdict) (zs : List Row) → SharesDetach ys capacity port r zs
-      → Answers r (useRefusals capacity (lent ys) port) × ((r ≡ success → ⊥) → zs ≡ ys)
+      → Answers r (useRefusals capacity ys port) × ((r ≡ success → ⊥) → zs ≡ ys)
   unfolding detachAnswer detachRows
   detach-refusals port r zs e =
-      let rs = useRefusals capacity (lent ys) port in
-      let t = use-numbered capacity (lent ys) port in (
+      let rs = useRefusals capacity ys port in
+      let t = use-numbered capacity ys port in (
         answers r rs (exactly rs t) (e .0),
         λ f. e .1 ∙ unwritten rs t ys _ (λ z. f (e .0 ∙ z)),
       )
 
   pub remaining-refusals : (r : RemainingPower) → SharesRemaining ys capacity r
-      → Answers (r .verdict) (remainingRefusals capacity (lent ys)) × ((r .verdict ≡ success → ⊥) → r .power ≡ halfWatts 0)
-  unfolding remainingAnswer powerLeft
+      → Answers (r .verdict) (remainingRefusals capacity ys) × ((r .verdict ≡ success → ⊥) → r .power ≡ halfWatts 0)
+  unfolding remainingAnswer
   remaining-refusals r e =
-      let rs = remainingRefusals capacity (lent ys) in
-      let t = remaining-numbered capacity (lent ys) in
+      let rs = remainingRefusals capacity ys in
+      let t = remaining-numbered capacity ys in
       let v = ap (λ (x : RemainingPower). x .verdict) e ∙ onto (λ (x : RemainingPower). x .verdict) noPowerLeft rs _ in (
         answers (r .verdict) rs (exactly rs t) v,
         λ f. ap (λ (x : RemainingPower). x .power) (e ∙ refused-so noPowerLeft rs (refused rs t (λ z. f (v ∙ z))) _),

@@ -7,7 +7,8 @@ use Prim.Native.Nat.{ℕ, zero, suc, _+_, _-_, _*_, _≤_, _<_}
 use native.Mathlib.Nat.{le-min, lt-suc-self}
 use native.Mathlib.Omega.{arith}
 use lib.Dec.{eqb}
-use lib.ListN.{length, set}
+use lib.ListN.{length, length-set, length-map, set}
+use lib.Seq.{getD-set-same, getD-set-other}
 use borrow.Author.Tests.{eqb-true, eqb-false, ltb-false, le-ltb, not-false}
 use Rattle.verdicts.specs.declared.Verdict.{Verdict}
 use Rattle.verdicts.specs.Refusals.{Refusal, refusal, eachPlace, firstOf, success}
@@ -18,96 +19,98 @@ use Rattle.rules.specs.Profiles.{badCable}
 use Rattle.requests.specs.Answering.{answerOf}
 use Rattle.requests.proofs.Answers.{answer-verdict}
 use Rattle.ports.specs.declared.Row.{Row}
-use Rattle.ports.specs.declared.Ports.{Ports}
-use Rattle.ports.specs.Rows.{rowOf, portRow, heldAt, allHeld, othersHeld, leftFor, together, besides, emptied, presentFor, offered, holding}
+use Rattle.ports.specs.Rows.{noRow, rowOf, portRow, heldAt, allHeld, othersHeld, leftFor, together, besides, emptied, presentFor, offering, offered, holding}
 use Rattle.ports.specs.Soundness.{soundRow}
 use Rattle.ports.specs.RuleLists.{ruleList}
 use Rattle.ports.specs.Requests.{newHeld}
 use Rattle.ports.specs.Refusing.{tableRefusals, freshRows, setUpRefusals, faultRows, sumFault, soundRefusals, remainingRefusals, portRefusals, cannotAttach, attachRefusals, useRefusals, ownRefusals, noPowerNow, requestRefusals}
-use Rattle.ports.specs.Lending.{lent, unlessRefused, setUpRows, attachRows, advertiseRows, requestRows, detachRows}
+use Rattle.ports.specs.Lending.{unlessRefused, setUpRows, attachRows, advertiseRows, requestRows, detachRows}
 use Rattle.ports.proofs.Sound.{SoundAttached, SoundLimits, limits-of, sound-empty, sound-attached, attached-sound, empty-sound, either-cable}
 use Rattle.ports.proofs.RuleLists.{attached-from-15, attached-offerable}
 use Rattle.ports.proofs.Sums.{others-agree, one-apart}
-use Rattle.ports.proofs.Passing.{count-high, capacity-low, sound-at, sum-fits, rows-pass, port-at, eight-rows, own-fits, row-sound, use-port, attached, cable-kept}
+use Rattle.ports.proofs.Passing.{capacity-low, sound-at, sum-fits, rows-pass, port-at, own-fits, row-sound, use-port, attached, cable-kept}
 use Rattle.ports.proofs.Offering.{held-from-15, offered-to-max}
 use Rattle.board.specs.Promises.{SharesSetUp, SharesAttach, SharesAdvertise, SharesRequest, SharesDetach}
 use Rattle.demands.proofs.AcceptedPower.{held-to-P}
 use Rattle.demands.proofs.AcceptedPower as accepted
-use Rattle.demands.proofs.LentRows.{lent-count, written-count, written-there, written-elsewhere, emptied-count, emptied-row}
 
--- ---- sound rows by value
+-- ---- sound rows
 
--- up to eight rows, each sound, that do not hold more than the capacity together
-pub record SoundPorts (capacity : ℕ) (t : Ports) : Type 0 where
-  pub each : (k : ℕ) → k < t .count → soundRow (rowOf t k) ≡ true
-  pub sum : allHeld t ≤ capacity
+-- each row is sound, and together they do not hold more than the capacity
+pub record SoundRows (capacity : ℕ) (ys : List Row) : Type 0 where
+  pub each : (k : ℕ) → k < length ys → soundRow (rowOf ys k) ≡ true
+  pub sum : allHeld ys ≤ capacity
 
-pub of-clear : (capacity : ℕ) (t : Ports) → NoneApply (remainingRefusals capacity t) → SoundPorts capacity t
-of-clear capacity t x = record { each = sound-at capacity t x; sum = sum-fits capacity t x }
+pub of-clear : (capacity : ℕ) (ys : List Row) → NoneApply (remainingRefusals capacity ys) → SoundRows capacity ys
+of-clear capacity ys x = record { each = sound-at capacity ys x; sum = sum-fits capacity ys x }
 
 -- where the number of rows and the capacity are right, no call but set-up is refused with 37
-pub to-clear : (capacity : ℕ) (t : Ports) → NoneApply (tableRefusals capacity t) → SoundPorts capacity t → NoneApply (remainingRefusals capacity t)
-to-clear capacity t x s =
-    none-append (tableRefusals capacity t) (soundRefusals capacity t) x
-    (none-append (eachPlace (faultRows t) (t .count)) (sumFault capacity t)
-    (none-all (faultRows t) (t .count) (λ k h. (ap not (s .each k h), tt))) (le-ltb capacity (allHeld t) (s .sum), tt))
+pub to-clear : (capacity : ℕ) (ys : List Row) → NoneApply (tableRefusals capacity (length ys)) → SoundRows capacity ys
+    → NoneApply (remainingRefusals capacity ys)
+to-clear capacity ys x s =
+    none-append (tableRefusals capacity (length ys)) (soundRefusals capacity ys) x
+    (none-append (eachPlace (faultRows ys) (length ys)) (sumFault capacity (allHeld ys))
+    (none-all (faultRows ys) (length ys) (λ k h. (ap not (s .each k h), tt))) (le-ltb capacity (allHeld ys) (s .sum), tt))
 
 -- ---- one row written
 
-module _ (capacity : ℕ) (ys : List Row) (i : ℕ) (y : Row) (eight : lent ys .count ≤ 8) (at : i < lent ys .count) where
-  abbrev t : Ports
-  t = lent ys
-
-  abbrev u : Ports
-  u = lent (set ys i y)
+module _ (capacity : ℕ) (ys : List Row) (i : ℕ) (y : Row) (at : i < length ys) where
+  abbrev u : List Row
+  u = set ys i y
 
   -- the row of each place
-  pub new-row : (k : ℕ) → k < u .count → k ≡ i → rowOf u k ≡ y
-  new-row k h e =
-      ap (rowOf u) e
-      ∙ written-there ys i y (omega (arith, eight, at)) (subst (λ (n : ℕ). i < n) (lent-count ys) at)
+  pub new-row : (k : ℕ) → k ≡ i → rowOf u k ≡ y
+  new-row k e = ap (rowOf u) e ∙ getD-set-same ys i y noRow at
 
-  pub old-row : (k : ℕ) → k < u .count → (k ≡ i → ⊥) → rowOf u k ≡ rowOf t k
-  old-row k h f = written-elsewhere ys i y k (let c = written-count ys i y in omega (arith, eight, h, c)) f
+  pub old-row : (k : ℕ) → (k ≡ i → ⊥) → rowOf u k ≡ rowOf ys k
+  old-row k f = getD-set-other ys i k y noRow f
 
-  pub by-place : (P : ℕ → Row → Type 0) → P i y → ((k : ℕ) → k < t .count → (k ≡ i → ⊥) → P k (rowOf t k)) → (k : ℕ) → k < u .count → P k (rowOf u k)
+  pub by-place : (P : ℕ → Row → Type 0) → P i y → ((k : ℕ) → k < length ys → (k ≡ i → ⊥) → P k (rowOf ys k))
+      → (k : ℕ) → k < length u → P k (rowOf u k)
   by-place P new old k h = go (eqb k i) refl where
     go : (b : Bool) → eqb k i ≡ b → P k (rowOf u k)
     go true e =
         let q = eqb-true k i e in
-        subst (P k) (sym (new-row k h q)) (subst (λ (j : ℕ). P j y) (sym q) new)
+        subst (P k) (sym (new-row k q)) (subst (λ (j : ℕ). P j y) (sym q) new)
     go false e =
         let f = eqb-false k i e in
-        subst (P k) (sym (old-row k h f)) (old k (subst (λ (n : ℕ). k < n) (written-count ys i y) h) f)
+        subst (P k) (sym (old-row k f)) (old k (subst (λ (n : ℕ). k < n) (length-set ys i y) h) f)
 
   -- what the others hold is as it was
-  pub others-same : together (besides i (heldAt u)) (u .count) ≡ together (besides i (heldAt t)) (t .count)
+  pub others-same : together (besides i (heldAt u)) (length u) ≡ together (besides i (heldAt ys)) (length ys)
   others-same =
-      others-agree i (heldAt u) (heldAt t) (u .count) (λ k h f. ap (λ (z : Row). z .held .0) (old-row k h f))
-      ∙ ap (together (besides i (heldAt t))) (written-count ys i y)
+      others-agree i (heldAt u) (heldAt ys) (length u) (λ k h f. ap (λ (z : Row). z .held .0) (old-row k f))
+      ∙ ap (together (besides i (heldAt ys))) (length-set ys i y)
 
-  pub all-is : allHeld u ≡ together (besides i (heldAt t)) (t .count) + y .held .0
+  pub all-is : allHeld u ≡ together (besides i (heldAt ys)) (length ys) + y .held .0
   all-is =
-      let l : i < u .count = subst (λ (n : ℕ). i < n) (sym (written-count ys i y)) at in
-      let a = one-apart i (heldAt u) (u .count) l in
+      let l : i < length u = subst (λ (n : ℕ). i < n) (sym (length-set ys i y)) at in
+      let a = one-apart i (heldAt u) (length u) l in
       let b = others-same in
-      let c = ap (λ (z : Row). z .held .0) (new-row i l refl) in
+      let c = ap (λ (z : Row). z .held .0) (new-row i refl) in
       omega (arith, a, b, c)
 
-  pub written-sound : SoundPorts capacity t → soundRow y ≡ true → together (besides i (heldAt t)) (t .count) + y .held .0 ≤ capacity
-      → SoundPorts capacity u
+  pub written-sound : SoundRows capacity ys → soundRow y ≡ true → together (besides i (heldAt ys)) (length ys) + y .held .0 ≤ capacity
+      → SoundRows capacity u
   written-sound s good fits = record {
     each = by-place (λ (k : ℕ) (z : Row). soundRow z ≡ true) good (λ k h f. s .each k h);
     sum = let e = all-is in omega (arith, e, fits);
   }
 
+-- ---- all rows emptied
+
+pub emptied-row : (ys : List Row) (k : ℕ) → k < length ys → rowOf (map emptied ys) k ≡ emptied (rowOf ys k)
+emptied-row [] k h = absurd (omega arith)
+emptied-row (y ∷ ys) zero h = refl
+emptied-row (y ∷ ys) (suc k) h = emptied-row ys k (omega arith)
+
 -- ---- the rows that the calls write
 
-module _ (capacity : ℕ) (t : Ports) (port : ℕ) where
+module _ (capacity : ℕ) (t : List Row) (port : ℕ) where
   -- the row that attach and advertise write
   pub offered-sound : NoneApply (portRefusals capacity t port) → (cable : ℕ) → badCable cable ≡ false
       → soundRow (offered capacity t port cable) ≡ true
-  unfolding offered presentFor
+  unfolding offering presentFor
   offered-sound x cable good =
       let y = portRow t port in
       let s = row-sound capacity t port x in
@@ -152,8 +155,8 @@ module _ (capacity : ℕ) (t : Ports) (port : ℕ) where
       })
 
 -- an accepted request, of the row's own list
-pub own-accepts : (t : Ports) (port word : ℕ) → NoneApply (ownRefusals t port word) → answerOf (ruleList (portRow t port)) word ≡ success
-own-accepts t port word x = answer-verdict (ruleList (portRow t port)) word ∙ all-missed _ _ (ownRefusals t port word) x
+pub own-accepts : (t : List Row) (port word : ℕ) → NoneApply (ownRefusals (portRow t port) word) → answerOf (ruleList (portRow t port)) word ≡ success
+own-accepts t port word x = answer-verdict (ruleList (portRow t port)) word ∙ all-missed _ _ (ownRefusals (portRow t port) word) x
 
 -- ---- each call
 
@@ -165,36 +168,32 @@ unless P ys [] after stays goes = goes tt
 unless P ys (refusal true n p ∷ rs) after stays goes = stays
 unless P ys (refusal false n p ∷ rs) after stays goes = unless P ys rs after stays (λ x. goes (refl, x))
 
--- the lent rows are sound
-abbrev pub SoundRows : ℕ → List Row → Type 0
-SoundRows capacity ys = SoundPorts capacity (lent ys)
-
 module _ (capacity : ℕ) (ys : List Row) where
   -- what the others hold and the row written stay within the capacity
-  same-held : (port cable : ℕ) → NoneApply (portRefusals capacity (lent ys) port)
-      → othersHeld (lent ys) port + offered capacity (lent ys) port cable .held .0 ≤ capacity
-  unfolding offered
-  same-held port cable x = own-fits capacity (lent ys) port x
+  same-held : (port cable : ℕ) → NoneApply (portRefusals capacity ys port)
+      → othersHeld ys port + offered capacity ys port cable .held .0 ≤ capacity
+  unfolding offering
+  same-held port cable x = own-fits capacity ys port x
 
-  less-held : (port : ℕ) → NoneApply (portRefusals capacity (lent ys) port)
-      → othersHeld (lent ys) port + emptied (portRow (lent ys) port) .held .0 ≤ capacity
+  less-held : (port : ℕ) → NoneApply (portRefusals capacity ys port)
+      → othersHeld ys port + emptied (portRow ys port) .held .0 ≤ capacity
   unfolding emptied
   less-held port p =
-      let a = own-fits capacity (lent ys) port p in
-      let b = held-from-15 (portRow (lent ys) port) (row-sound capacity (lent ys) port p) in
+      let a = own-fits capacity ys port p in
+      let b = held-from-15 (portRow ys port) (row-sound capacity ys port p) in
       omega (arith, a, b)
 
-  new-held : (port word : ℕ) → NoneApply (portRefusals capacity (lent ys) port)
-      → newHeld (portRow (lent ys) port) word ≤ leftFor capacity (lent ys) port
-      → othersHeld (lent ys) port + holding (portRow (lent ys) port) (newHeld (portRow (lent ys) port) word) .held .0 ≤ capacity
+  new-held : (port word : ℕ) → NoneApply (portRefusals capacity ys port)
+      → newHeld (portRow ys port) word ≤ leftFor capacity ys port
+      → othersHeld ys port + holding (portRow ys port) (newHeld (portRow ys port) word) .held .0 ≤ capacity
   unfolding holding
-  new-held port word p h = let a = own-fits capacity (lent ys) port p in omega (arith, a, h)
+  new-held port word p h = let a = own-fits capacity ys port p in omega (arith, a, h)
 
-  held-15 : (k : ℕ) → k < 8 → k < length ys → heldAt (lent (map emptied ys)) k ≡ 15
+  held-15 : (k : ℕ) → k < length ys → heldAt (map emptied ys) k ≡ 15
   unfolding emptied
-  held-15 k h l = ap (λ (z : Row). z .held .0) (emptied-row ys k h l)
+  held-15 k l = ap (λ (z : Row). z .held .0) (emptied-row ys k l)
 
-  all-15 : (n : ℕ) → ((k : ℕ) → k < n → heldAt (lent (map emptied ys)) k ≡ 15) → together (heldAt (lent (map emptied ys))) n ≡ 15 * n
+  all-15 : (n : ℕ) → ((k : ℕ) → k < n → heldAt (map emptied ys) k ≡ 15) → together (heldAt (map emptied ys)) n ≡ 15 * n
   unfolding together
   all-15 zero f = refl
   all-15 (suc n) f =
@@ -202,79 +201,78 @@ module _ (capacity : ℕ) (ys : List Row) where
       let b = f n (lt-suc-self n) in
       omega (arith, a, b)
 
-  offer-kept : (port cable : ℕ) → NoneApply (portRefusals capacity (lent ys) port) → badCable cable ≡ false
-      → SoundRows capacity (set ys (port - 1) (offered capacity (lent ys) port cable))
+  offer-kept : (port cable : ℕ) → NoneApply (portRefusals capacity ys port) → badCable cable ≡ false
+      → SoundRows capacity (set ys (port - 1) (offered capacity ys port cable))
   offer-kept port cable x good =
-      written-sound capacity ys (port - 1) (offered capacity (lent ys) port cable) (eight-rows capacity (lent ys) port x) (port-at capacity
-      (lent ys) port x)
-      (of-clear capacity (lent ys) (rows-pass capacity (lent ys) port x)) (offered-sound capacity (lent ys) port x cable good)
+      written-sound capacity ys (port - 1) (offered capacity ys port cable) (port-at capacity
+      ys port x)
+      (of-clear capacity ys (rows-pass capacity ys port x)) (offered-sound capacity ys port x cable good)
       (same-held port cable x)
 
   module _ (s : SoundRows capacity ys) where
     pub attach-keeps : (port cable : ℕ) (r : Listing) (zs : List Row) → SharesAttach ys capacity port cable r zs → SoundRows capacity zs
     unfolding attachRows
     attach-keeps port cable r zs e =
-        subst (SoundRows capacity) (sym (e .1)) (unless (SoundRows capacity) ys (attachRefusals capacity (lent ys) port cable) _ s (λ x.
-        offer-kept port cable (none-left (portRefusals capacity (lent ys) port) (cannotAttach (lent ys) port cable) x) (none-right
-        (portRefusals capacity (lent ys) port) (cannotAttach (lent ys) port cable) x .0)))
+        subst (SoundRows capacity) (sym (e .1)) (unless (SoundRows capacity) ys (attachRefusals capacity ys port cable) _ s (λ x.
+        offer-kept port cable (none-left (portRefusals capacity ys port) (cannotAttach (portRow ys port) port cable) x) (none-right
+        (portRefusals capacity ys port) (cannotAttach (portRow ys port) port cable) x .0)))
 
     pub advertise-keeps : (port : ℕ) (r : Listing) (zs : List Row) → SharesAdvertise ys capacity port r zs → SoundRows capacity zs
     unfolding advertiseRows
     advertise-keeps port r zs e =
-        subst (SoundRows capacity) (sym (e .1)) (unless (SoundRows capacity) ys (useRefusals capacity (lent ys) port) _ s (λ x.
-        offer-kept port (portRow (lent ys) port .cable) (use-port capacity (lent ys) port x) (cable-kept capacity (lent ys) port x)))
+        subst (SoundRows capacity) (sym (e .1)) (unless (SoundRows capacity) ys (useRefusals capacity ys port) _ s (λ x.
+        offer-kept port (portRow ys port .cable) (use-port capacity ys port x) (cable-kept capacity ys port x)))
 
     pub detach-keeps : (port : ℕ) (r : Verdict) (zs : List Row) → SharesDetach ys capacity port r zs → SoundRows capacity zs
     unfolding detachRows
     detach-keeps port r zs e =
-        subst (SoundRows capacity) (sym (e .1)) (unless (SoundRows capacity) ys (useRefusals capacity (lent ys) port) _ s (λ x.
-        let p = use-port capacity (lent ys) port x in
-        let y = portRow (lent ys) port in
-        written-sound capacity ys (port - 1) (emptied y) (eight-rows capacity (lent ys) port p) (port-at capacity (lent ys) port p) s
-        (emptied-sound capacity (lent ys) port y (attached capacity (lent ys) port x .limits)) (less-held port p)))
+        subst (SoundRows capacity) (sym (e .1)) (unless (SoundRows capacity) ys (useRefusals capacity ys port) _ s (λ x.
+        let p = use-port capacity ys port x in
+        let y = portRow ys port in
+        written-sound capacity ys (port - 1) (emptied y) (port-at capacity ys port p) s
+        (emptied-sound capacity ys port y (attached capacity ys port x .limits)) (less-held port p)))
 
     pub request-keeps : (port word : ℕ) (r : Verdict) (zs : List Row) → SharesRequest ys capacity port word r zs → SoundRows capacity zs
     unfolding requestRows
     request-keeps port word r zs e =
-        subst (SoundRows capacity) (sym (e .1)) (unless (SoundRows capacity) ys (requestRefusals capacity (lent ys) port word) _ s (λ x.
-        let u = none-left (useRefusals capacity (lent ys) port) (ownRefusals (lent ys) port word ++ noPowerNow capacity (lent ys) port word) x in
-        let rest = none-right (useRefusals capacity (lent ys) port) (ownRefusals (lent ys) port word ++ noPowerNow capacity (lent ys) port word) x in
-        let own = none-left (ownRefusals (lent ys) port word) (noPowerNow capacity (lent ys) port word) rest in
-        let left = ltb-false _ _ (none-right (ownRefusals (lent ys) port word) (noPowerNow capacity (lent ys) port word) rest .0) in
-        let p = use-port capacity (lent ys) port u in
-        let y = portRow (lent ys) port in
-        let a = attached capacity (lent ys) port u in
-        let high = held-to-P y (attached-offerable y a) word (own-accepts (lent ys) port word own) (attached-from-15 y a) in
+        subst (SoundRows capacity) (sym (e .1)) (unless (SoundRows capacity) ys (requestRefusals capacity ys port word) _ s (λ x.
+        let u = none-left (useRefusals capacity ys port) (ownRefusals (portRow ys port) word ++ noPowerNow (leftFor capacity ys port) (portRow ys port) port word) x in
+        let rest = none-right (useRefusals capacity ys port) (ownRefusals (portRow ys port) word ++ noPowerNow (leftFor capacity ys port) (portRow ys port) port word) x in
+        let own = none-left (ownRefusals (portRow ys port) word) (noPowerNow (leftFor capacity ys port) (portRow ys port) port word) rest in
+        let left = ltb-false _ _ (none-right (ownRefusals (portRow ys port) word) (noPowerNow (leftFor capacity ys port) (portRow ys port) port word) rest .0) in
+        let p = use-port capacity ys port u in
+        let y = portRow ys port in
+        let a = attached capacity ys port u in
+        let high = held-to-P y (attached-offerable y a) word (own-accepts ys port word own) (attached-from-15 y a) in
         let low = accepted.held-from-15 y word in
-        written-sound capacity ys (port - 1) (holding y (newHeld y word)) (eight-rows capacity (lent ys) port p) (port-at capacity (lent ys) port p) s
-        (holding-sound capacity (lent ys) port y (newHeld y word) a low high) (new-held port word p left)))
+        written-sound capacity ys (port - 1) (holding y (newHeld y word)) (port-at capacity ys port p) s
+        (holding-sound capacity ys port y (newHeld y word) a low high) (new-held port word p left)))
 
   -- after set-up the rows are sound, whatever else the lent rows held
-  pub set-up-sounds : NoneApply (setUpRefusals capacity (lent ys)) → SoundRows capacity (map emptied ys)
+  pub set-up-sounds : NoneApply (setUpRefusals capacity ys) → SoundRows capacity (map emptied ys)
   set-up-sounds x =
-      let table = none-left (tableRefusals capacity (lent ys)) (eachPlace (freshRows (lent ys)) (lent ys .count)) x in
-      let rows = none-right (tableRefusals capacity (lent ys)) (eachPlace (freshRows (lent ys)) (lent ys .count)) x in
-      let eight = count-high capacity (lent ys) table in
-      let c = emptied-count ys in
-      let low = capacity-low capacity (lent ys) table in
+      let table = none-left (tableRefusals capacity (length ys)) (eachPlace (freshRows ys) (length ys)) x in
+      let rows = none-right (tableRefusals capacity (length ys)) (eachPlace (freshRows ys) (length ys)) x in
+      let c : length (map emptied ys) ≡ length ys = length-map ys emptied in
+      let low = capacity-low capacity ys table in
       record {
         each = λ k h.
-            let l : k < lent ys .count = subst (λ (n : ℕ). k < n) c h in
-            let row = none-at (freshRows (lent ys)) (lent ys .count) k rows l in
-            let y = rowOf (lent ys) k in
-            subst (λ (z : Row). soundRow z ≡ true) (sym (emptied-row ys k (omega (arith, l, eight)) (subst (λ (n : ℕ). k < n) (lent-count ys) l)))
-            (emptied-sound capacity (lent ys) 0 y (record {
+            let l : k < length ys = subst (λ (n : ℕ). k < n) c h in
+            let row = none-at (freshRows ys) (length ys) k rows l in
+            let y = rowOf ys k in
+            subst (λ (z : Row). soundRow z ≡ true) (sym (emptied-row ys k l))
+            (emptied-sound capacity ys 0 y (record {
               max-low = at-least 15 200 (y .max .0) (row .0);
               max-high = at-most 15 200 (y .max .0) (row .0);
               pps-high = ltb-false 1 (y .pps) (row .1 .0);
             }));
         sum =
-            let e : allHeld (lent (map emptied ys)) ≡ 15 * lent (map emptied ys) .count = all-15 (lent (map emptied ys) .count)
-            (λ k h. held-15 k (omega (arith, h, c, eight)) (subst (λ (n : ℕ). k < n) (c ∙ lent-count ys) h)) in
+            let e : allHeld (map emptied ys) ≡ 15 * length (map emptied ys) = all-15 (length (map emptied ys))
+            (λ k h. held-15 k (subst (λ (n : ℕ). k < n) c h)) in
             omega (arith, e, c, low);
       }
 
   pub set-up-keeps : SoundRows capacity ys → (r : Verdict) (zs : List Row) → SharesSetUp ys capacity r zs → SoundRows capacity zs
   unfolding setUpRows
   set-up-keeps s r zs e =
-      subst (SoundRows capacity) (sym (e .1)) (unless (SoundRows capacity) ys (setUpRefusals capacity (lent ys)) (map emptied ys) s set-up-sounds)
+      subst (SoundRows capacity) (sym (e .1)) (unless (SoundRows capacity) ys (setUpRefusals capacity ys) (map emptied ys) s set-up-sounds)

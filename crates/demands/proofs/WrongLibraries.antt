@@ -27,12 +27,11 @@ use Rattle.requests.specs.Limits.{bitSet, avsTop, avsLimit}
 use Rattle.requests.specs.Answering.{answerOf}
 use Rattle.ports.specs.declared.Row.{Row}
 use Rattle.ports.specs.declared.RemainingPower.{RemainingPower}
-use Rattle.ports.specs.Rows.{noRow, together, besides, emptied, presentFor, offered, holding}
+use Rattle.ports.specs.Rows.{noRow, together, besides, emptied, presentFor, offering, holding}
 use Rattle.ports.specs.Soundness.{soundRow}
 use Rattle.ports.specs.RuleLists.{rulePps, ruleProfile}
 use Rattle.ports.specs.Requests.{powerOf, heldFor}
-use Rattle.ports.specs.Deciding.{powerLeft}
-use Rattle.ports.specs.Lending.{lent, setUpAnswer, setUpRows, attachAnswer, attachRows, advertiseAnswer, advertiseRows, requestAnswer, requestRows, detachAnswer, detachRows, remainingAnswer}
+use Rattle.ports.specs.Lending.{setUpAnswer, setUpRows, attachAnswer, attachRows, advertiseAnswer, advertiseRows, requestAnswer, requestRows, detachAnswer, detachRows, remainingAnswer}
 use Rattle.board.specs.Promises.{SharesSetUp, SharesAttach, SharesAdvertise, SharesRequest, SharesDetach, SharesRemaining}
 use Rattle.demands.proofs.Contracts.{ShapeAnswers, BuildAnswers, AnswerAnswers}
 use Rattle.demands.proofs.History.{Run, attached, requested}
@@ -79,31 +78,31 @@ unfolding firstOf eachPlace bits decodeOf reservedSet outOfBounds over100W mayFo
 answered = refl
 
 set-up-then : SharesSetUp none-attached 200 success none-attached
-unfolding firstOf eachPlace emptied lent setUpAnswer setUpRows
+unfolding firstOf eachPlace emptied setUpAnswer setUpRows
 set-up-then = (refl, refl)
 
 attach-then : SharesAttach none-attached 200 1 5 (record { verdict = success; list = list-130 }) one-attached
-unfolding firstOf eachPlace bits wordOf sevenTo downOf upOf baseSlots progSlots builtCurrent progCurrent objectFor builtOf together besides presentFor offered soundRow rulePps ruleProfile lent attachAnswer attachRows
+unfolding firstOf eachPlace bits wordOf sevenTo downOf upOf baseSlots progSlots builtCurrent progCurrent objectFor builtOf together besides presentFor offering soundRow rulePps ruleProfile attachAnswer attachRows
 attach-then = (refl, refl)
 
 request-then : SharesRequest one-attached 200 1 (fixed 4 325) success one-holds
-unfolding firstOf eachPlace bits decodeOf reservedSet outOfBounds over100W mayFollow isFixed5V hasFixed avsDiffers bitSet avsTop avsLimit sevenTo downOf upOf wordOf baseSlots progSlots builtCurrent progCurrent objectFor builtOf together besides holding soundRow rulePps ruleProfile powerOf heldFor lent requestAnswer requestRows
+unfolding firstOf eachPlace bits decodeOf reservedSet outOfBounds over100W mayFollow isFixed5V hasFixed avsDiffers bitSet avsTop avsLimit sevenTo downOf upOf wordOf baseSlots progSlots builtCurrent progCurrent objectFor builtOf together besides holding soundRow rulePps ruleProfile powerOf heldFor requestAnswer requestRows
 request-then = (refl, refl)
 
 attach-2-then : SharesAttach one-holds 200 2 5 (record { verdict = success; list = list-70 }) both-attached
-unfolding firstOf eachPlace bits wordOf sevenTo downOf upOf baseSlots progSlots builtCurrent progCurrent objectFor builtOf together besides presentFor offered soundRow rulePps ruleProfile lent attachAnswer attachRows
+unfolding firstOf eachPlace bits wordOf sevenTo downOf upOf baseSlots progSlots builtCurrent progCurrent objectFor builtOf together besides presentFor offering soundRow rulePps ruleProfile attachAnswer attachRows
 attach-2-then = (refl, refl)
 
 advertise-then : SharesAdvertise one-holds 200 1 (record { verdict = success; list = list-130 }) one-holds
-unfolding firstOf eachPlace bits wordOf sevenTo downOf upOf baseSlots progSlots builtCurrent progCurrent objectFor builtOf together besides presentFor offered soundRow rulePps ruleProfile lent advertiseAnswer advertiseRows
+unfolding firstOf eachPlace bits wordOf sevenTo downOf upOf baseSlots progSlots builtCurrent progCurrent objectFor builtOf together besides presentFor offering soundRow rulePps ruleProfile advertiseAnswer advertiseRows
 advertise-then = (refl, refl)
 
 detach-then : SharesDetach one-holds 200 1 success none-attached
-unfolding firstOf eachPlace together emptied soundRow lent detachAnswer detachRows
+unfolding firstOf eachPlace together emptied soundRow detachAnswer detachRows
 detach-then = (refl, refl)
 
 remaining-then : SharesRemaining one-holds 200 (record { verdict = success; power = halfWatts 55 })
-unfolding firstOf eachPlace together soundRow lent remainingAnswer powerLeft
+unfolding firstOf eachPlace together soundRow remainingAnswer
 remaining-then = refl
 
 -- two answers that one contract allows are the same

@@ -1,17 +1,16 @@
--- A table of refusals that a function has judged: its verdict decides, or the next table does. Of rows judged and summed in one pass
--- the sum is known where they pass.
+-- A table of refusals that a function has judged: its verdict decides, or the next table does. Answers that are the same where no row
+-- of the table applies are the same behind it, and behind its verdict.
 -- Assumes nothing.
-use mathlib.Core.Path.{_≡_, ap, sym, _∙_}
-use mathlib.Core.Bool.{true}
-use mathlib.Core.List.{List, _++_}
-use Prim.Native.Nat.{ℕ}
+use mathlib.Core.Path.{_≡_, refl, ap, sym, _∙_}
+use mathlib.Core.Bool.{true, false, not, and-eq-true-iff}
+use mathlib.Core.List.{List, [], _∷_, _++_}
+use Prim.Native.Nat.{ℕ, _<_}
+use native.Mathlib.Omega.{arith}
+use lib.Dec.{ltb, eqb}
+use borrow.Author.Tests.{ltb-true, ne-eqb}
 use Rattle.verdicts.specs.declared.Verdict.{Verdict}
-use Rattle.verdicts.specs.Refusals.{Refusal, firstOf, verdictOf, success}
-use Rattle.verdicts.proofs.First.{NoneApply, none-applied, numbered, refused-so, all-missed, stops, goes-on, passes, onto}
-use Rattle.ports.specs.declared.Ports.{Ports}
-use Rattle.ports.specs.declared.soundness.Standing.{Standing}
-use Rattle.ports.specs.Rows.{allHeld}
-use Rattle.ports.specs.Standing.{atFault, allTogether, standingOf}
+use Rattle.verdicts.specs.Refusals.{Refusal, refusal, firstOf, verdictOf, success}
+use Rattle.verdicts.proofs.First.{NoneApply, none-applied, numbered, refused-so, stops, goes-on, passes}
 
 abbrev number : Verdict → ℕ
 number v = v .number
@@ -30,9 +29,6 @@ module _ (xs : List Refusal) (v : Verdict) (e : v ≡ verdictOf xs) where
     pub decides : (v .number ≡ 0 → ⊥) → firstOf refused xs answer ≡ refused (v .number) (v .place)
     decides f = refused-so refused xs (refuses f) answer ∙ ap (λ (u : Verdict). refused (u .number) (u .place)) (sym e)
 
-    pub lets-pass : numbered xs ≡ true → v .number ≡ 0 → firstOf refused xs answer ≡ answer
-    lets-pass t z = all-missed refused answer xs (clear t z)
-
     module _ (ys : List Refusal) where
       pub stops-at : (v .number ≡ 0 → ⊥) → firstOf refused (xs ++ ys) answer ≡ refused (v .number) (v .place)
       stops-at f = stops refused xs ys answer (refuses f) ∙ ap (λ (u : Verdict). refused (u .number) (u .place)) (sym e)
@@ -40,25 +36,22 @@ module _ (xs : List Refusal) (v : Verdict) (e : v ≡ verdictOf xs) where
       pub moves-on : numbered xs ≡ true → v .number ≡ 0 → firstOf refused (xs ++ ys) answer ≡ firstOf refused ys answer
       moves-on t z = goes-on refused xs ys answer t (sym (ap number e) ∙ z)
 
--- ---- judged and summed
+-- ---- behind a table
 
-module _ (xs : List Refusal) (t : Ports) (r : Standing) (e : r ≡ standingOf xs t) where
-  pub fault-is : r .fault ≡ verdictOf xs
-  fault-is = ap (λ (s : Standing). s .fault) e ∙ onto (λ (s : Standing). s .fault) atFault xs (allTogether t)
+module _ {A : Type 0} (refused : ℕ → ℕ → A) where
+  pub same-behind : (rs : List Refusal) (a b : A) → (NoneApply rs → a ≡ b) → firstOf refused rs a ≡ firstOf refused rs b
+  unfolding firstOf
+  same-behind [] a b e = e tt
+  same-behind (refusal true n p ∷ rs) a b e = refl
+  same-behind (refusal false n p ∷ rs) a b e = same-behind rs a b (λ x. e (refl, x))
 
-  pub sum-is : numbered xs ≡ true → r .fault .number ≡ 0 → r ≡ allTogether t
-  sum-is n z = e ∙ lets-pass xs (r .fault) fault-is atFault (allTogether t) n z
-
-  pub held-is : numbered xs ≡ true → r .fault .number ≡ 0 → r .held ≡ allHeld t
-  held-is n z = ap (λ (s : Standing). s .held) (sum-is n z)
-
-  -- a refusal stays, whatever table comes after
-  pub stays : (ys : List Refusal) → (r .fault .number ≡ 0 → ⊥) → r ≡ standingOf (xs ++ ys) t
-  stays ys f =
-      e
-      ∙ decides xs (r .fault) fault-is atFault (allTogether t) f
-      ∙ sym (stops-at xs (r .fault) fault-is atFault (allTogether t) ys f)
-
-  -- where the first table passes, the next decides
-  pub next : (ys : List Refusal) → numbered xs ≡ true → r .fault .number ≡ 0 → standingOf (xs ++ ys) t ≡ standingOf ys t
-  next ys n z = moves-on xs (r .fault) fault-is atFault (allTogether t) ys n z
+  -- the verdict of a table stands for it
+  pub verdict-stands : (rs : List Refusal) → numbered rs ≡ true → (answer : A)
+      → firstOf refused (refusal (not (eqb (verdictOf rs .number) 0)) (verdictOf rs .number) (verdictOf rs .place) ∷ []) answer
+      ≡ firstOf refused rs answer
+  unfolding firstOf
+  verdict-stands [] t answer = refl
+  verdict-stands (refusal true n p ∷ rs) t answer =
+      let h : 0 < n = ltb-true 0 n (and-eq-true-iff (ltb 0 n) (numbered rs) .0 t .0) in
+      rw (ne-eqb n 0 (λ e. omega (arith, h, e))) refl
+  verdict-stands (refusal false n p ∷ rs) t answer = verdict-stands rs (and-eq-true-iff (ltb 0 n) (numbered rs) .0 t .1) answer

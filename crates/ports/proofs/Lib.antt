@@ -5,5 +5,9 @@ pub mod Sums
 pub mod Passing
 pub mod Powers
 pub mod Judged
+pub mod ByValue
+pub mod Requesting
 pub mod Asking
 pub mod Offering
+pub mod Standings
+pub mod Said

@@ -1,8 +1,8 @@
--- A port that is offered power (01, "Attach and advertise set P to ..., and return the list"): its list can be built, and where no
--- refusal applies that is what the call decides.
+-- A port that is offered power (01, "Attach and advertise set P to ..., and return the list"): its list can be built.
 -- Assumes nothing.
-use mathlib.Core.Path.{_≡_, refl, sym, ap, _∙_}
+use mathlib.Core.Path.{_≡_, refl, ap}
 use mathlib.Core.Bool.{Bool, true, false, _||_}
+use mathlib.Core.List.{List}
 use Prim.Native.Nat.{ℕ, _≤_}
 use native.Mathlib.Nat.{min-le-left, le-min}
 use native.Mathlib.Omega.{arith}
@@ -10,18 +10,15 @@ use lib.Dec.{eqb}
 use borrow.Author.Tests.{not-false}
 use Rattle.verdicts.specs.declared.Verdict.{Verdict}
 use Rattle.verdicts.specs.Refusals.{success}
-use Rattle.verdicts.proofs.First.{NoneApply, all-missed}
+use Rattle.verdicts.proofs.First.{NoneApply}
 use Rattle.lists.specs.declared.Listing.{Listing}
 use Rattle.rules.specs.Profiles.{badCable}
 use Rattle.rules.specs.Building.{builtOf}
 use Rattle.ports.specs.declared.Row.{Row}
-use Rattle.ports.specs.declared.Ports.{Ports}
-use Rattle.ports.specs.declared.Offer.{Offer}
-use Rattle.ports.specs.Rows.{portRow, leftFor, presentFor, offered}
+use Rattle.ports.specs.Rows.{portRow, leftFor, presentFor, offering, offered}
 use Rattle.ports.specs.Soundness.{soundRow}
 use Rattle.ports.specs.RuleLists.{ruleProfile, ruleList}
-use Rattle.ports.specs.Refusing.{portRefusals, attachRefusals, useRefusals}
-use Rattle.ports.specs.Deciding.{noOffer, offering, attachOffer, advertiseOffer}
+use Rattle.ports.specs.Refusing.{portRefusals}
 use Rattle.ports.proofs.Sound.{sound-empty, sound-attached, limits-of, either-cable}
 use Rattle.ports.proofs.RuleLists.{Offerable, rule-list-built}
 use Rattle.ports.proofs.Passing.{row-sound, own-fits}
@@ -33,48 +30,37 @@ held-from-15 y s = go (eqb (y .cable) 0) refl where
   go true e = omega (arith, sound-empty y s e .held-15)
   go false e = sound-attached y s e .held-low
 
-module _ (capacity : ℕ) (t : Ports) (port : ℕ) (x : NoneApply (portRefusals capacity t port)) where
-  pub left-from-15 : 15 ≤ leftFor capacity t port
+module _ (capacity : ℕ) (ys : List Row) (port : ℕ) (x : NoneApply (portRefusals capacity ys port)) where
+  pub left-from-15 : 15 ≤ leftFor capacity ys port
   left-from-15 =
-      let a = own-fits capacity t port x in
-      let b = held-from-15 (portRow t port) (row-sound capacity t port x) in
+      let a = own-fits capacity ys port x in
+      let b = held-from-15 (portRow ys port) (row-sound capacity ys port x) in
       omega (arith, a, b)
 
   -- the P that is offered is 15 or more, and no more than M
-  pub offered-from-15 : 15 ≤ presentFor capacity t port
+  pub offered-from-15 : 15 ≤ presentFor capacity ys port
   unfolding presentFor
-  offered-from-15 = le-min (limits-of (portRow t port) (row-sound capacity t port x) .max-low) left-from-15
+  offered-from-15 = le-min (limits-of (portRow ys port) (row-sound capacity ys port x) .max-low) left-from-15
 
-  pub offered-to-max : presentFor capacity t port ≤ portRow t port .max .0
+  pub offered-to-max : presentFor capacity ys port ≤ portRow ys port .max .0
   unfolding presentFor
-  offered-to-max = min-le-left (portRow t port .max .0) (leftFor capacity t port)
+  offered-to-max = min-le-left (portRow ys port .max .0) (leftFor capacity ys port)
 
   module _ (cable : ℕ) (good : badCable cable ≡ false) where
-    pub offerable : Offerable (offered capacity t port cable)
-    unfolding offered
+    pub offerable : Offerable (offered capacity ys port cable)
+    unfolding offering presentFor
     offerable = record {
-      max-high = limits-of (portRow t port) (row-sound capacity t port x) .max-high;
+      max-high = limits-of (portRow ys port) (row-sound capacity ys port x) .max-high;
       present-low = let a = offered-from-15 in omega (arith, a);
       present-high = offered-to-max;
       cable-is = either-cable cable (not-false (eqb cable 3 || eqb cable 5) good);
     }
 
-    pub list-offered : builtOf (ruleProfile (offered capacity t port cable)) ≡ record {
+    pub list-offered : builtOf (ruleProfile (offered capacity ys port cable)) ≡ record {
       verdict = success;
       list = ruleList
-          (offered capacity t port cable);
+          (offered capacity ys port cable);
     }
     list-offered =
-        ap (λ (v : Verdict). record { verdict = v; list = ruleList (offered capacity t port cable) })
-        (ap (λ (l : Listing). l .verdict) (rule-list-built (offered capacity t port cable) offerable))
-
-module _ (capacity : ℕ) (t : Ports) (port : ℕ) (r : Offer) where
-  pub attaches : (cable : ℕ) → NoneApply (attachRefusals capacity t port cable) → r ≡ offering port (offered capacity t port cable)
-      → r ≡ attachOffer capacity t port cable
-  unfolding attachOffer
-  attaches cable n e = e ∙ sym (all-missed (noOffer t) _ (attachRefusals capacity t port cable) n)
-
-  pub advertises : NoneApply (useRefusals capacity t port) → r ≡ offering port (offered capacity t port (portRow t port .cable))
-      → r ≡ advertiseOffer capacity t port
-  unfolding advertiseOffer
-  advertises n e = e ∙ sym (all-missed (noOffer t) _ (useRefusals capacity t port) n)
+        ap (λ (v : Verdict). record { verdict = v; list = ruleList (offered capacity ys port cable) })
+        (ap (λ (l : Listing). l .verdict) (rule-list-built (offered capacity ys port cable) offerable))

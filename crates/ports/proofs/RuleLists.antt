@@ -1,26 +1,22 @@
 -- A row that a list can be built for (01, "Ports that share"): its profile passes the builder, and the list its shape.
 -- Assumes nothing.
-use mathlib.Core.Path.{_≡_, refl, sym, ap, _∙_, subst}
+use mathlib.Core.Path.{_≡_, refl, sym, ap, subst}
 use mathlib.Core.Bool.{Bool, true, false, not, cond, _&&_, _||_}
 use mathlib.Core.Logic.{_⊎_}
-use Prim.Native.Nat.{ℕ, _≤_}
+use Prim.Native.Nat.{_≤_}
 use native.Mathlib.Omega.{arith}
 use lib.Dec.{ltb, eqb}
 use borrow.Author.Tests.{le-ltb, eqb-true}
-use Rattle.verdicts.specs.declared.Verdict.{Verdict}
 use Rattle.verdicts.specs.Refusals.{verdict, success}
-use Rattle.verdicts.proofs.First.{NoneApply, all-missed}
+use Rattle.verdicts.proofs.First.{NoneApply}
 use Rattle.steps.proofs.RangeLaws.{inside}
 use Rattle.lists.specs.declared.Words.{Words}
 use Rattle.lists.specs.declared.Listing.{Listing}
-use Rattle.lists.specs.Shape.{shapeRefusals, shapeOf}
-use Rattle.lists.proofs.Shapes.{shape-verdict}
+use Rattle.lists.specs.Shape.{shapeRefusals}
 use Rattle.rules.specs.Profiles.{buildRefusals}
 use Rattle.rules.specs.Building.{builtWords, builtOf}
 use Rattle.rules.proofs.Builds.{build-clear}
 use Rattle.rules.proofs.BuiltPasses.{shape-clear}
-use Rattle.requests.specs.Answering.{answerOf, shapedAnswer}
-use Rattle.requests.proofs.Answers.{same-answer}
 use Rattle.ports.specs.declared.Row.{Row}
 use Rattle.ports.specs.RuleLists.{rulePps, ruleProfile, ruleList}
 use Rattle.ports.proofs.Sound.{SoundAttached, cable-good}
@@ -72,12 +68,6 @@ module _ (y : Row) (o : Offerable y) where
   pub rule-list-is : ruleList y ≡ builtWords (ruleProfile y)
   rule-list-is = ap (λ (l : Listing). l .list) rule-list-built
 
-  -- it passes its shape, so a request on it need not look at that again
+  -- it passes its shape
   pub rule-list-clear : NoneApply (shapeRefusals (ruleList y))
   rule-list-clear = subst (λ (l : Words). NoneApply (shapeRefusals l)) (sym rule-list-is) (shape-clear (ruleProfile y) rule-profile-passes)
-
-  pub rule-list-shaped : shapeOf (ruleList y) ≡ success
-  rule-list-shaped = shape-verdict (ruleList y) ∙ all-missed verdict success (shapeRefusals (ruleList y)) rule-list-clear
-
-  pub rule-list-answers : (w : ℕ) → answerOf (ruleList y) w ≡ shapedAnswer (ruleList y) w
-  rule-list-answers w = same-answer (ruleList y) w (ap (λ (v : Verdict). v .number) rule-list-shaped)

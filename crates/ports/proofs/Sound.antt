@@ -4,6 +4,7 @@ use mathlib.Core.Path.{_≡_, refl, sym, ap, _∙_}
 use mathlib.Core.Bool.{Bool, true, false, cond, _&&_, _||_, and-eq-true-iff}
 use mathlib.Core.Logic.{_⊎_, inl, inr, ⊎-elim}
 use Prim.Native.Nat.{ℕ, _≤_}
+use native.Mathlib.Omega.{arith}
 use lib.Dec.{leb, eqb}
 use borrow.Author.Tests.{leb-true, le-leb, eqb-true, eq-eqb}
 use Rattle.steps.specs.Ranges.{within}
@@ -115,3 +116,12 @@ module _ (y : Row) where
       of-both (a .limits)
       (ap (λ (b : Bool). cond b (soundEmpty y) (soundAttached y)) (eq-eqb (y .cable) 0 (a .no-cable))
       ∙ rw (eq-eqb (y .present .0) 0 (a .no-present), eq-eqb (y .held .0) 15 (a .held-15)))
+
+-- every sound row holds at most 200
+pub held-to-200 : (y : Row) → soundRow y ≡ true → y .held .0 ≤ 200
+held-to-200 y s = go (eqb (y .cable) 0) refl where
+  go : (b : Bool) → eqb (y .cable) 0 ≡ b → y .held .0 ≤ 200
+  go true e = omega (arith, sound-empty y s e .held-15)
+  go false e =
+      let a = sound-attached y s e in
+      omega (arith, a .held-high, a .present-high, a .limits .max-high)

@@ -1,34 +1,19 @@
--- Figures together: place by place, bounded, and with one of them apart.
+-- Figures together: place by place, and with one of them apart.
 -- Assumes nothing.
 use mathlib.Core.Path.{_≡_, refl, sym, ap, ap₂, _∙_}
 use mathlib.Core.Bool.{Bool, true, false}
 use mathlib.Core.Logic.{⊎-elim}
 use Prim.Native.Nat.{ℕ, zero, suc, _+_, _≤_, _<_}
 use native.Mathlib.Nat.{eq-or-lt-of-le, le-of-suc-le-suc, lt-suc-self}
-use native.Mathlib.Numerals.{add-one}
 use native.Mathlib.Omega.{arith}
 use lib.Dec.{eqb}
 use borrow.Author.Tests.{eq-eqb, ne-eqb, eqb-true, eqb-false}
 use Rattle.ports.specs.Rows.{together, besides}
 
-pub none-together : (f : ℕ → ℕ) → together f 0 ≡ 0
-unfolding together
-none-together f = refl
-
--- one place more
-pub more-together : (f : ℕ → ℕ) (k : ℕ) → together f (k + 1) ≡ together f k + f k
-unfolding together
-more-together f k = rw (add-one k) refl
-
 pub same-figures : (f g : ℕ → ℕ) (n : ℕ) → ((k : ℕ) → k < n → f k ≡ g k) → together f n ≡ together g n
 unfolding together
 same-figures f g zero e = refl
 same-figures f g (suc n) e = ap₂ _+_ (same-figures f g n (λ k h. e k (omega arith))) (e n (lt-suc-self n))
-
-pub at-most-together : (f g : ℕ → ℕ) (n : ℕ) → ((k : ℕ) → k < n → f k ≤ g k) → together f n ≤ together g n
-unfolding together
-at-most-together f g zero h = omega arith
-at-most-together f g (suc n) h = omega (arith, at-most-together f g n (λ k l. h k (omega arith)), h n (lt-suc-self n))
 
 -- ---- one figure apart
 

@@ -1,63 +1,78 @@
--- What each sharing call decides from the rows by value: its answer, and the row to write (01, "Ports that share").
+-- What each sharing call decides from how the rows stand and from the port's own row: its answer, and the row to write (01, "Ports that
+-- share"). That this is what the lent rows say is shown in proofs/.
 -- Assumes nothing.
-use Prim.Native.Nat.{ℕ, _-_}
-use Rattle.verdicts.specs.declared.Verdict.{Verdict}
-use Rattle.verdicts.specs.Refusals.{firstOf, verdict, success, verdictOf}
+use mathlib.Core.Bool.{Bool, not}
+use mathlib.Core.List.{List, [], _∷_, _++_}
+use Prim.Native.Nat.{ℕ, _+_, _-_}
+use lib.Dec.{eqb}
+use Rattle.verdicts.specs.Refusals.{Refusal, refusal, firstOf, verdict, success}
+use Rattle.lists.specs.declared.Listing.{Listing}
 use Rattle.lists.specs.Writing.{writeRefused}
+use Rattle.rules.specs.Profiles.{halfWatts}
+use Rattle.rules.specs.Building.{builtOf}
 use Rattle.ports.specs.declared.Row.{Row}
-use Rattle.ports.specs.declared.Ports.{Ports}
-use Rattle.ports.specs.declared.Offer.{Offer}
+use Rattle.ports.specs.declared.Standing.{Standing}
 use Rattle.ports.specs.declared.Change.{Change}
 use Rattle.ports.specs.declared.RemainingPower.{RemainingPower}
-use Rattle.rules.specs.Profiles.{halfWatts}
-use Rattle.ports.specs.Rows.{noRow, portRow, emptied, allHeld, offered, holding}
-use Rattle.ports.specs.RuleLists.{ruleList}
+use Rattle.ports.specs.Rows.{noRow, emptied, presentOf, offering, holding}
+use Rattle.ports.specs.RuleLists.{ruleProfile}
 use Rattle.ports.specs.Requests.{newHeld}
-use Rattle.ports.specs.Refusing.{setUpRefusals, remainingRefusals, attachRefusals, useRefusals, requestRefusals}
+use Rattle.ports.specs.Refusing.{cannotAttach, notAttached, ownRefusals, noPowerNow}
+use Rattle.ports.specs.Standing.{endRefusals, portEndRefusals}
+use Rattle.ports.specs.Lending.{noPowerLeft}
 
--- whether the rows can be set up
-unfoldable pub setUpVerdict : ℕ → Ports → Verdict
-setUpVerdict capacity t = verdictOf (setUpRefusals capacity t)
+-- "capacity less the other rows' held": less all held, and the row's own again
+abbrev pub leftBeside : ℕ → Standing → Row → ℕ
+leftBeside capacity s y = (capacity - s .held) + y .held .0
 
--- "A refusal returns its number, the place, and zero for all else, an empty list included; rows are not written": the place past
--- the last row is no row.
-abbrev pub noOffer : Ports → ℕ → ℕ → Offer
-noOffer t n p = record { answer = writeRefused n p; at = t .count; row = noRow }
+-- "the smaller of M and" that
+abbrev pub presentBeside : ℕ → Standing → Row → ℕ
+presentBeside capacity s y = presentOf y (leftBeside capacity s y)
 
-abbrev pub noChange : Ports → ℕ → ℕ → Change
-noChange t n p = record { answer = verdict n p; at = t .count; row = noRow }
-
--- a row offered, "and return the list"
-abbrev pub offering : ℕ → Row → Offer
-offering port y = record { answer = record { verdict = success; list = ruleList y }; at = port - 1; row = y }
-
-unfoldable pub attachOffer : ℕ → Ports → ℕ → ℕ → Offer
-attachOffer capacity t port cable =
-    firstOf (noOffer t) (attachRefusals capacity t port cable) (offering port (offered capacity t port cable))
-
-unfoldable pub advertiseOffer : ℕ → Ports → ℕ → Offer
-advertiseOffer capacity t port =
-    firstOf (noOffer t) (useRefusals capacity t port) (offering port (offered capacity t port (portRow t port .cable)))
+-- "A refusal returns its number, the place, and zero for all else ..; rows are not written": the place past the last row is no row.
+abbrev pub noChange : Standing → ℕ → ℕ → Change
+noChange s n p = record { answer = verdict n p; at = s .count; row = noRow }
 
 -- a row changed
 abbrev pub changing : ℕ → Row → Change
 changing port y = record { answer = success; at = port - 1; row = y }
 
-unfoldable pub requestChange : ℕ → Ports → ℕ → ℕ → Change
-requestChange capacity t port word =
-    firstOf (noChange t) (requestRefusals capacity t port word)
-    (changing port (holding (portRow t port) (newHeld (portRow t port) word)))
+abbrev pub attachEndRefusals : ℕ → Standing → Row → ℕ → ℕ → List Refusal
+attachEndRefusals capacity s y port cable = portEndRefusals capacity s port ++ cannotAttach y port cable
+
+abbrev pub useEndRefusals : ℕ → Standing → Row → ℕ → List Refusal
+useEndRefusals capacity s y port = portEndRefusals capacity s port ++ notAttached y port
+
+abbrev pub requestEndRefusals : ℕ → Standing → Row → ℕ → ℕ → List Refusal
+requestEndRefusals capacity s y port word =
+    useEndRefusals capacity s y port ++ (ownRefusals y word ++ noPowerNow (leftBeside capacity s y) y port word)
+
+-- "Attach and advertise set P to the smaller of M and capacity less the other rows' held"
+unfoldable pub attachChange : ℕ → Standing → Row → ℕ → ℕ → Change
+attachChange capacity s y port cable =
+    firstOf (noChange s) (attachEndRefusals capacity s y port cable) (changing port (offering y (presentBeside capacity s y) cable))
+
+unfoldable pub advertiseChange : ℕ → Standing → Row → ℕ → Change
+advertiseChange capacity s y port =
+    firstOf (noChange s) (useEndRefusals capacity s y port) (changing port (offering y (presentBeside capacity s y) (y .cable)))
+
+abbrev pub refused : Change → Bool
+refused c = not (eqb (c .answer .number) 0)
+
+-- ".. and return the list": that of the row that is written
+unfoldable pub offerOf : Change → Listing
+offerOf c = firstOf writeRefused (refusal (refused c) (c .answer .number) (c .answer .place) ∷ []) (builtOf (ruleProfile (c .row)))
+
+-- "An accepted request sets held to the larger of 15 and its power"
+unfoldable pub requestChange : ℕ → Standing → Row → ℕ → ℕ → Change
+requestChange capacity s y port word =
+    firstOf (noChange s) (requestEndRefusals capacity s y port word) (changing port (holding y (newHeld y word)))
 
 -- "Detach empties."
-unfoldable pub detachChange : ℕ → Ports → ℕ → Change
-detachChange capacity t port =
-    firstOf (noChange t) (useRefusals capacity t port) (changing port (emptied (portRow t port)))
+unfoldable pub detachChange : ℕ → Standing → Row → ℕ → Change
+detachChange capacity s y port = firstOf (noChange s) (useEndRefusals capacity s y port) (changing port (emptied y))
 
 -- "Remaining power is capacity less all held."
-abbrev pub noPowerLeft : ℕ → ℕ → RemainingPower
-noPowerLeft n p = record { verdict = verdict n p; power = halfWatts 0 }
-
-unfoldable pub powerLeft : ℕ → Ports → RemainingPower
-powerLeft capacity t =
-    firstOf noPowerLeft (remainingRefusals capacity t)
-    (record { verdict = success; power = halfWatts (capacity - allHeld t) })
+unfoldable pub powerLeft : ℕ → Standing → RemainingPower
+powerLeft capacity s =
+    firstOf noPowerLeft (endRefusals capacity s) (record { verdict = success; power = halfWatts (capacity - s .held) })

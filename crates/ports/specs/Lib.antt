@@ -3,7 +3,7 @@ pub mod Soundness
 pub mod RuleLists
 pub mod Requests
 pub mod Refusing
+pub mod Lending
 pub mod Standing
 pub mod Deciding
-pub mod Lending
 pub mod Promises

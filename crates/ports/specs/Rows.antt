@@ -1,24 +1,24 @@
--- The rows of the ports and what they hold (01, "Ports that share").
+-- The rows of the ports and what they hold (01, "Ports that share"). Rows are a list, one row for each port, as they are lent.
 -- Assumes nothing.
 use mathlib.Core.Bool.{cond}
+use mathlib.Core.List.{List}
 use Prim.Native.Nat.{ℕ, zero, suc, _+_, _-_, min}
 use lib.Dec.{eqb}
-use lib.ListN.{getD}
+use lib.ListN.{length, getD}
 use Rattle.rules.specs.Profiles.{halfWatts}
 use Rattle.ports.specs.declared.Row.{Row}
-use Rattle.ports.specs.declared.Ports.{Ports}
 
 -- no row at all
 abbrev pub noRow : Row
 noRow = record { max = halfWatts 0; pps = 0; cable = 0; present = halfWatts 0; held = halfWatts 0 }
 
 -- the row of place k + 1
-abbrev pub rowOf : Ports → ℕ → Row
-rowOf t k = getD (t .rows) k noRow
+abbrev pub rowOf : List Row → ℕ → Row
+rowOf ys k = getD ys k noRow
 
 -- the row of a port; ports count from 1
-abbrev pub portRow : Ports → ℕ → Row
-portRow t port = rowOf t (port - 1)
+abbrev pub portRow : List Row → ℕ → Row
+portRow ys port = rowOf ys (port - 1)
 
 -- "Empty means cable 0, P 0, held 15."
 unfoldable pub emptied : Row → Row
@@ -33,34 +33,36 @@ together figure (suc k) = together figure k + figure k
 unfoldable pub besides : ℕ → (ℕ → ℕ) → ℕ → ℕ
 besides own figure k = cond (eqb k own) 0 (figure k)
 
-abbrev pub heldAt : Ports → ℕ → ℕ
-heldAt t k = rowOf t k .held .0
+abbrev pub heldAt : List Row → ℕ → ℕ
+heldAt ys k = rowOf ys k .held .0
 
 -- "all held together"
-abbrev pub allHeld : Ports → ℕ
-allHeld t = together (heldAt t) (t .count)
+abbrev pub allHeld : List Row → ℕ
+allHeld ys = together (heldAt ys) (length ys)
 
 -- "the other rows' held"
-abbrev pub othersHeld : Ports → ℕ → ℕ
-othersHeld t port = together (besides (port - 1) (heldAt t)) (t .count)
+abbrev pub othersHeld : List Row → ℕ → ℕ
+othersHeld ys port = together (besides (port - 1) (heldAt ys)) (length ys)
 
 -- "capacity less the other rows' held"
-abbrev pub leftFor : ℕ → Ports → ℕ → ℕ
-leftFor capacity t port = capacity - othersHeld t port
+abbrev pub leftFor : ℕ → List Row → ℕ → ℕ
+leftFor capacity ys port = capacity - othersHeld ys port
+
+-- the smaller of M and what is left for the row
+abbrev pub presentOf : Row → ℕ → ℕ
+presentOf y left = min (y .max .0) left
 
 -- "Attach and advertise set P to the smaller of M and capacity less the other rows' held"
-unfoldable pub presentFor : ℕ → Ports → ℕ → ℕ
-presentFor capacity t port = min (portRow t port .max .0) (leftFor capacity t port)
+unfoldable pub presentFor : ℕ → List Row → ℕ → ℕ
+presentFor capacity ys port = presentOf (portRow ys port) (leftFor capacity ys port)
 
--- a port with its cable, offered that P; what it holds stays
-unfoldable pub offered : ℕ → Ports → ℕ → ℕ → Row
-offered capacity t port cable = record {
-  max = portRow t port .max;
-  pps = portRow t port .pps;
-  cable = cable;
-  present = halfWatts (presentFor capacity t port);
-  held = portRow t port .held;
-}
+-- a row with this P and this cable; what it holds stays
+unfoldable pub offering : Row → ℕ → ℕ → Row
+offering y present cable = record { max = y .max; pps = y .pps; cable = cable; present = halfWatts present; held = y .held }
+
+-- a port with its cable, offered that P
+abbrev pub offered : ℕ → List Row → ℕ → ℕ → Row
+offered capacity ys port cable = offering (portRow ys port) (presentFor capacity ys port) cable
 
 -- a port that holds so much
 unfoldable pub holding : Row → ℕ → Row

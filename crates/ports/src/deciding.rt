@@ -1,31 +1,33 @@
 // What each sharing call decides (01, "Ports that share").
 ghost use mathlib.Core.Path.{_≡_};
-ghost use mathlib.Core.Bool.{false};
-ghost use Prim.Native.Nat.{_-_, _≤_, min};
-ghost use Rattle.verdicts.specs.Refusals.{success, verdictOf};
-ghost use Rattle.rules.specs.Profiles.{badCable};
+ghost use mathlib.Core.Bool.{cond};
+ghost use mathlib.Core.List.{[], _∷_};
+ghost use Prim.Native.Nat.{_≤_, min};
+ghost use lib.Dec.{ltb, eqb};
+ghost use Rattle.verdicts.specs.Refusals.{refusal, firstOf, verdict};
+ghost use Rattle.steps.specs.Ranges.{within};
 ghost use Rattle.rules.specs.Building.{builtOf};
-ghost use Rattle.ports.specs.RuleLists.{rulePps, ruleProfile};
-ghost use Rattle.ports.specs.Rows.{allHeld, offered};
-ghost use Rattle.ports.specs.Refusing.{portRefusals};
-ghost use Rattle.ports.specs.Deciding.{noOffer, noChange, offering};
-ghost use Rattle.ports.specs.Promises.{SetsUp, Attaches, Advertises, Requests, Detaches, Remains};
+ghost use Rattle.requests.specs.Taking.{positionOf};
+ghost use Rattle.requests.specs.Answering.{namedBy};
+ghost use Rattle.ports.specs.RuleLists.{rulePps, ruleProfile, ruleList};
+ghost use Rattle.ports.specs.Rows.{offering, holding};
+ghost use Rattle.ports.specs.Deciding.{presentBeside, leftBeside, noChange, changing};
+ghost use Rattle.ports.specs.Promises.{Attaches, Advertises, Offers, Requests, Detaches, Remains};
 use crate::Change;
 use crate::NO_ROW;
-use crate::Offer;
-use crate::Ports;
 use crate::RemainingPower;
 use crate::Row;
+use crate::Standing;
 use crate::emptied;
 use crate::held::holding_power;
+use crate::judging::end_fault;
 use crate::power::held_for;
 use crate::refusing::attach_fault;
-use crate::refusing::remaining_fault;
-use crate::refusing::set_up_fault;
 use crate::refusing::use_fault;
 use crate::soundness::verdict_at;
 use lists::Listing;
-use lists::NO_WORDS;
+use objects::Decoded;
+use rules::Placed;
 use rules::Profile;
 use steps::HalfWatts;
 use verdicts::Verdict;
@@ -43,53 +45,85 @@ fn rule_pps(row: Row) -> u8
     1
 }
 
-// The rule list of a row.
-fn rule_list(row: Row) -> Listing
-    ensures { λ r. ⌜ r ≡ builtOf (ruleProfile row) ⌝ }
+// What the list of a row is built for.
+fn rule_profile(row: Row) -> Profile
+    ensures { λ r. ⌜ r ≡ ruleProfile row ⌝ }
 {
     let max = row.max;
     let present = row.present;
     let pps = rule_pps(row);
-    rules::build(Profile {
+    Profile {
         max,
         present,
         cable: row.cable,
         rounding: 0,
         pps,
         flags: 0,
-    })
-}
-
-// A refusal names no row to write.
-fn no_offer(ports: Ports, verdict: Verdict) -> Offer
-    ensures { λ r. ⌜ r ≡ noOffer ports (verdict .number) (verdict .place) ⌝ }
-{
-    Offer {
-        answer: Listing {
-            verdict,
-            list: NO_WORDS,
-        },
-        at: ports.count,
-        row: NO_ROW,
     }
 }
 
-fn no_change(ports: Ports, verdict: Verdict) -> Change
-    ensures { λ r. ⌜ r ≡ noChange ports (verdict .number) (verdict .place) ⌝ }
+// The rule list of a row.
+fn rule_list(row: Row) -> Listing
+    ensures { λ r. ⌜ r ≡ builtOf (ruleProfile row) ⌝ }
+{
+    let profile = rule_profile(row);
+    rules::build(profile)
+}
+
+// The object that a request names in the list of a row. Its word alone is made.
+fn named_object(row: Row, word: u32) -> Decoded
+    ensures { λ r. ⌜ r ≡ cond (within 1 (ruleList row .count) (positionOf word)) (namedBy (ruleList row) word) Decoded.NotAllowed ⌝ }
+{
+    let profile = rule_profile(row);
+    let place = requests::position(word);
+    let placed = rules::word_at(profile, place);
+    let Placed::Word(w) = placed else {
+        return Decoded::NotAllowed;
+    };
+    objects::decode(w)
+}
+
+// Why a request names no object: the list has no such place, or it is empty where none can be built.
+fn no_object(row: Row) -> Verdict
+    ensures { λ r. ⌜ r ≡ cond (eqb (ruleList row .count) 0) (verdict 10 0) (verdict 20 0) ⌝ }
+{
+    let profile = rule_profile(row);
+    let first = rules::word_at(profile, 1);
+    if let Placed::Word(_) = first {
+        return verdict_at(verdicts::POSITION, 0);
+    }
+    verdict_at(verdicts::COUNT, 0)
+}
+
+// A refusal names no row to write: there is none at the count.
+fn no_change(standing: Standing, verdict: Verdict) -> Change
+    ensures { λ r. ⌜ r ≡ noChange standing (verdict .number) (verdict .place) ⌝ }
 {
     Change {
         answer: verdict,
-        at: ports.count,
+        at: standing.count,
         row: NO_ROW,
     }
 }
 
-// Capacity less the other rows' held, which is all held less the row's own.
-fn left_for(capacity: HalfWatts, all: u32, own: HalfWatts) -> u32
-    requires { ⌜ (own .0 ≤ all) × (all ≤ capacity .0) ⌝ }
-    ensures { λ r. ⌜ r ≡ capacity .0 - (all - own .0) ⌝ }
+fn change_row(port: u8, row: Row) -> Change
+    requires { ⌜ 1 ≤ port ⌝ }
+    ensures { λ r. ⌜ r ≡ changing port row ⌝ }
 {
-    (capacity.0 as u32) - (all - (own.0 as u32))
+    let answer = verdict_at(verdicts::SUCCESS, 0);
+    Change {
+        answer,
+        at: (port - 1) as usize,
+        row,
+    }
+}
+
+// Capacity less the other rows' held: what is left of it, and the row's own held.
+fn left_for(standing: Standing, row: Row, capacity: HalfWatts) -> u32
+    requires { ⌜ standing .held ≤ capacity .0 ⌝ }
+    ensures { λ r. ⌜ r ≡ leftBeside (capacity .0) standing row ⌝ }
+{
+    ((capacity.0 as u32) - standing.held) + (row.held.0 as u32)
 }
 
 fn smaller(max: HalfWatts, left: u32) -> HalfWatts
@@ -101,129 +135,117 @@ fn smaller(max: HalfWatts, left: u32) -> HalfWatts
     max
 }
 
-// The row with this cable, its P anew, and its list. The rows hold `all` together.
-fn offer_row(ports: Ports, all: u32, capacity: HalfWatts, port: u8, cable: u8) -> Offer
-    requires { ⌜ (verdictOf (portRefusals (capacity .0) ports port) ≡ success) × (badCable cable ≡ false) × (all ≡ allHeld ports) ⌝ }
-    ensures { λ r. ⌜ r ≡ offering port (offered (capacity .0) ports port cable) ⌝ }
+// The row with this cable, and its P anew.
+fn offered_row(standing: Standing, old: Row, capacity: HalfWatts, cable: u8) -> Row
+    requires { ⌜ standing .held ≤ capacity .0 ⌝ }
+    ensures { λ r. ⌜ r ≡ offering old (presentBeside (capacity .0) standing old) cable ⌝ }
 {
-    let rows = ports.rows;
-    let at = (port - 1) as usize;
-    let old = rows[at];
     let max = old.max;
     let held = old.held;
-    let left = left_for(capacity, all, held);
+    let left = left_for(standing, old, capacity);
     let present = smaller(max, left);
-    let row = Row {
+    Row {
         max,
         pps: old.pps,
         cable,
         present,
         held,
-    };
-    let answer = rule_list(row);
-    Offer { answer, at, row }
-}
-
-pub fn set_up(ports: Ports, capacity: HalfWatts) -> Verdict
-    ensures { λ r. ⌜ SetsUp ports capacity r ⌝ }
-{
-    set_up_fault(ports, capacity)
-}
-
-pub fn attach(ports: Ports, capacity: HalfWatts, port: u8, cable: u8) -> Offer
-    ensures { λ r. ⌜ Attaches ports capacity port cable r ⌝ }
-{
-    let standing = attach_fault(ports, capacity, port, cable);
-    let fault = standing.fault;
-    if fault.number != verdicts::SUCCESS {
-        return no_offer(ports, fault);
     }
-    offer_row(ports, standing.held, capacity, port, cable)
 }
 
-pub fn advertise(ports: Ports, capacity: HalfWatts, port: u8) -> Offer
-    ensures { λ r. ⌜ Advertises ports capacity port r ⌝ }
+pub fn attach(standing: Standing, row: Row, capacity: HalfWatts, port: u8, cable: u8) -> Change
+    ensures { λ r. ⌜ Attaches standing row capacity port cable r ⌝ }
 {
-    let standing = use_fault(ports, capacity, port);
-    let fault = standing.fault;
+    let fault = attach_fault(standing, row, capacity, port, cable);
     if fault.number != verdicts::SUCCESS {
-        return no_offer(ports, fault);
+        return no_change(standing, fault);
     }
-    let rows = ports.rows;
-    let at = (port - 1) as usize;
-    let row = rows[at];
-    offer_row(ports, standing.held, capacity, port, row.cable)
+    let new = offered_row(standing, row, capacity, cable);
+    change_row(port, new)
+}
+
+pub fn advertise(standing: Standing, row: Row, capacity: HalfWatts, port: u8) -> Change
+    ensures { λ r. ⌜ Advertises standing row capacity port r ⌝ }
+{
+    let fault = use_fault(standing, row, capacity, port);
+    if fault.number != verdicts::SUCCESS {
+        return no_change(standing, fault);
+    }
+    let new = offered_row(standing, row, capacity, row.cable);
+    change_row(port, new)
+}
+
+// ".. and return the list".
+pub fn offer(change: Change) -> Listing
+    ensures { λ r. ⌜ Offers change r ⌝ }
+{
+    let verdict = change.answer;
+    if verdict.number != verdicts::SUCCESS {
+        return lists::refuse(verdict.number, verdict.place);
+    }
+    let row = change.row;
+    rule_list(row)
+}
+
+// 36, or the row that holds so much.
+fn hold(standing: Standing, row: Row, capacity: HalfWatts, port: u8, held: HalfWatts) -> Change
+    requires { ⌜ (standing .held ≤ capacity .0) × (1 ≤ port) ⌝ }
+    ensures { λ r. ⌜ r ≡ firstOf (noChange standing) (refusal (ltb (leftBeside (capacity .0) standing row) (held .0)) 36 port ∷ []) (changing port (holding row (held .0))) ⌝ }
+{
+    let left = left_for(standing, row, capacity);
+    if left < (held.0 as u32) {
+        let none = verdict_at(verdicts::NO_POWER_NOW, port);
+        return no_change(standing, none);
+    }
+    let new = holding_power(row, held);
+    change_row(port, new)
 }
 
 // Judged on the list of the row's stored P.
-pub fn request(ports: Ports, capacity: HalfWatts, port: u8, word: u32) -> Change
-    ensures { λ r. ⌜ Requests ports capacity port word r ⌝ }
+pub fn request(standing: Standing, row: Row, capacity: HalfWatts, port: u8, word: u32) -> Change
+    ensures { λ r. ⌜ Requests standing row capacity port word r ⌝ }
 {
-    let standing = use_fault(ports, capacity, port);
-    let fault = standing.fault;
+    let fault = use_fault(standing, row, capacity, port);
     if fault.number != verdicts::SUCCESS {
-        return no_change(ports, fault);
+        return no_change(standing, fault);
     }
-    let rows = ports.rows;
-    let at = (port - 1) as usize;
-    let row = rows[at];
-    let listing = rule_list(row);
-    let list = listing.list;
-    let own = requests::answer_shaped(list, word);
+    let named = named_object(row, word);
+    let Decoded::Known(o) = named else {
+        let none = no_object(row);
+        return no_change(standing, none);
+    };
+    let own = requests::judge(o, word);
     if own.number != verdicts::SUCCESS {
-        return no_change(ports, own);
+        return no_change(standing, own);
     }
     let present = row.present;
-    let held = held_for(list, present, word);
-    let left = left_for(capacity, standing.held, row.held);
-    if left < held {
-        let none = verdict_at(verdicts::NO_POWER_NOW, port);
-        return no_change(ports, none);
-    }
-    let new = holding_power(row, HalfWatts(held as u16));
-    let answer = verdict_at(verdicts::SUCCESS, 0);
-    Change {
-        answer,
-        at,
-        row: new,
-    }
+    let held = held_for(o, present, word);
+    hold(standing, row, capacity, port, held)
 }
 
-pub fn detach(ports: Ports, capacity: HalfWatts, port: u8) -> Change
-    ensures { λ r. ⌜ Detaches ports capacity port r ⌝ }
+pub fn detach(standing: Standing, row: Row, capacity: HalfWatts, port: u8) -> Change
+    ensures { λ r. ⌜ Detaches standing row capacity port r ⌝ }
 {
-    let standing = use_fault(ports, capacity, port);
-    let fault = standing.fault;
+    let fault = use_fault(standing, row, capacity, port);
     if fault.number != verdicts::SUCCESS {
-        return no_change(ports, fault);
+        return no_change(standing, fault);
     }
-    let rows = ports.rows;
-    let at = (port - 1) as usize;
-    let row = rows[at];
     let new = emptied(row);
-    let answer = verdict_at(verdicts::SUCCESS, 0);
-    Change {
-        answer,
-        at,
-        row: new,
-    }
+    change_row(port, new)
 }
 
-pub fn remaining(ports: Ports, capacity: HalfWatts) -> RemainingPower
-    ensures { λ r. ⌜ Remains ports capacity r ⌝ }
+pub fn remaining(standing: Standing, capacity: HalfWatts) -> RemainingPower
+    ensures { λ r. ⌜ Remains standing capacity r ⌝ }
 {
-    let standing = remaining_fault(ports, capacity);
-    let fault = standing.fault;
-    if fault.number != verdicts::SUCCESS {
+    let verdict = end_fault(standing, capacity);
+    if verdict.number != verdicts::SUCCESS {
         return RemainingPower {
-            verdict: fault,
+            verdict,
             power: HalfWatts(0),
         };
     }
-    let left = (capacity.0 as u32) - standing.held;
-    let verdict = verdict_at(verdicts::SUCCESS, 0);
     RemainingPower {
         verdict,
-        power: HalfWatts(left as u16),
+        power: HalfWatts(((capacity.0 as u32) - standing.held) as u16),
     }
 }

@@ -1,9 +1,10 @@
-// Ports that share one supply (01, "Ports that share"): the rows by value, and what each call decides from them. The calls
-// themselves, over the lent rows, are in `board`.
+// Ports that share one supply (01, "Ports that share"): how the rows stand, and what each call decides from that
+// and from its port's own row, by value. The calls themselves, over the lent rows, are in `board`.
 ghost use Rattle.ports.specs.Promises.{Empties};
 
 mod deciding;
 mod held;
+mod judging;
 mod power;
 mod refusing;
 mod soundness;
@@ -11,10 +12,14 @@ mod soundness;
 pub use deciding::advertise;
 pub use deciding::attach;
 pub use deciding::detach;
+pub use deciding::offer;
 pub use deciding::remaining;
 pub use deciding::request;
-pub use deciding::set_up;
-use lists::Listing;
+pub use judging::all_or_none;
+pub use judging::begin;
+pub use judging::goes_on;
+pub use judging::place_of;
+pub use judging::take_row;
 use steps::HalfWatts;
 use verdicts::Verdict;
 
@@ -29,7 +34,7 @@ pub struct Row {
     pub held: HalfWatts,
 }
 
-// No row at all: what a refusal names, and what stands past the count.
+// No row at all: what a refusal names, and what there is past the last row.
 pub const NO_ROW: Row = Row {
     max: HalfWatts(0),
     pps: 0,
@@ -38,20 +43,20 @@ pub const NO_ROW: Row = Row {
     held: HalfWatts(0),
 };
 
-// The lent rows by value: the first eight, and how many were lent. Places past the count are not looked at.
-pub struct Ports {
-    pub rows: [Row; 8],
+// What a pass over the rows asks of each: at set-up that it can be set up (31, 4), in every other call that it is sound (37).
+pub const FRESH: bool = true;
+
+pub const SOUND: bool = false;
+
+// How the rows stand, as far as they were looked at: the first refusal, or success; how many rows there are; and what those
+// looked at hold together.
+pub struct Standing {
+    pub fault: Verdict,
     pub count: usize,
+    pub held: u32,
 }
 
-// What attach and advertise decide: the answer, and the row to write. Where `at` is no row, none is written.
-pub struct Offer {
-    pub answer: Listing,
-    pub at: usize,
-    pub row: Row,
-}
-
-// What request and detach decide, likewise.
+// What a call decides: the answer, and the row to write. Where `at` is no row, none is written.
 pub struct Change {
     pub answer: Verdict,
     pub at: usize,

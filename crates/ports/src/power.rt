@@ -1,13 +1,10 @@
 // The power of a request (01, "Ports that share"). A half watt is 1000 times 50 mV by 10 mA, 500 times 20 mV by 50 mA, and 400
 // times 25 mV by 50 mA: the steps are never turned into mV and mA.
 ghost use mathlib.Core.Path.{_≡_};
-ghost use Prim.Native.Nat.{_≤_, _*_, min};
+ghost use Prim.Native.Nat.{_<_, _*_, min, max};
 ghost use Rattle.steps.specs.Units.{mv20, mv25, mv50, ma10, ma50};
 ghost use Rattle.steps.specs.Rounding.{upOf};
-ghost use Rattle.requests.specs.Taking.{positionOf};
-ghost use Rattle.ports.specs.Requests.{cutFor, halfWattsFor, heldFor};
-use lists::Words;
-use objects::Decoded;
+ghost use Rattle.ports.specs.Requests.{cutFor, halfWattsFor};
 use objects::Object;
 use requests::Request;
 use steps::HalfWatts;
@@ -62,19 +59,13 @@ fn object_power(o: Object, present: HalfWatts, word: u32) -> u32
 }
 
 // What an accepted request holds: the larger of 15 and its power.
-pub(crate) fn held_for(list: Words, present: HalfWatts, word: u32) -> u32
-    requires { ⌜ (1 ≤ positionOf word) × (positionOf word ≤ 7) ⌝ }
-    ensures { λ r. ⌜ r ≡ heldFor list (present .0) word ⌝ }
+pub(crate) fn held_for(o: Object, present: HalfWatts, word: u32) -> HalfWatts
+    requires { ⌜ cutFor o (present .0) (halfWattsFor o word) < 65536 ⌝ }
+    ensures { λ r. ⌜ r .0 ≡ max 15 (cutFor o (present .0) (halfWattsFor o word)) ⌝ }
 {
-    let at = (requests::position(word) - 1) as usize;
-    let w = list.words[at];
-    let d = objects::decode(w);
-    let Decoded::Known(o) = d else {
-        return 15;
-    };
     let power = object_power(o, present, word);
     if power < 15 {
-        return 15;
+        return HalfWatts(15);
     }
-    power
+    HalfWatts(power as u16)
 }

@@ -11,13 +11,13 @@ use Rattle.verdicts.proofs.First.{NoneApply, none-applied, none-left, none-righ
 use Rattle.objects.specs.declared.Object.{Object}
 use Rattle.objects.specs.declared.Decoded.{Decoded}
 use Rattle.objects.specs.declared.Decoded.the-variants.{Known}
-use Rattle.objects.specs.Asking.{ofObject}
 use Rattle.lists.specs.declared.Words.{Words}
 use Rattle.lists.specs.Shape.{shapeRefusals, shapeOf}
 use Rattle.lists.specs.Reading.{objectOf}
 use Rattle.requests.specs.Taking.{positionOf, mismatchOf, requestOf}
-use Rattle.requests.specs.Limits.{reservedInRequest, voltsOf, operatingOf, advertisedAt, inRange, wholeStep, voltageNotWhole, voltageOutside, operatingTooLarge, maximumTooLarge}
-use Rattle.requests.specs.Answering.{namedBy, answerRefusals, answerOf}
+use Rattle.requests.specs.Limits.{reservedInRequest, voltsOf, operatingOf, advertisedAt, inRange, wholeStep, maximumTooLarge}
+use Rattle.requests.specs.Judging.{refusalsOf}
+use Rattle.requests.specs.Answering.{namedBy, namedRefusals, answerRefusals, answerOf}
 use Rattle.requests.proofs.Answers.{answer-numbered, names-object}
 
 -- an accepted request names an object of a list whose shape passes, sets no reserved bit, and keeps to the object's limits
@@ -54,18 +54,16 @@ module _ (l : Words) (w : ℕ) (e : answerOf l w ≡ success) where
       let high = ltb-false (l .count) (positionOf w) (place .1) in
       let o = objectOf (namedBy l w) in
       let n = names-object l w (ap (λ (v : Verdict). v .number) shaped) low high in
-      let said : (f : Object → Bool) → ofObject f (namedBy l w) ≡ false → f o ≡ false =
-      λ f q. subst (λ (d : Decoded). ofObject f d ≡ false) n q in
+      let own : NoneApply (refusalsOf o w) = subst (λ (d : Decoded). NoneApply (namedRefusals d w)) n (rest .1) in
       record {
         shape-passes = shaped;
         from-1 = low;
         to-count = high;
         object = o;
         names = n;
-        none-reserved = said (λ (x : Object). reservedInRequest x w) (rest .1 .0);
-        whole = not-false _ (said (λ (x : Object). voltageNotWhole x (requestOf x w)) (rest .1 .1 .0));
-        in-range = not-false _ (said (λ (x : Object). voltageOutside x (requestOf x w)) (rest .1 .1 .1 .0));
-        at-most =
-            leb-true _ _ (not-false _ (said (λ (x : Object). operatingTooLarge x (requestOf x w)) (rest .1 .1 .1 .1 .0)));
-        maximum-allowed = said (λ (x : Object). maximumTooLarge x (mismatchOf w) (requestOf x w)) (rest .1 .1 .1 .1 .1 .0);
+        none-reserved = own .0;
+        whole = not-false _ (own .1 .0);
+        in-range = not-false _ (own .1 .1 .0);
+        at-most = leb-true _ _ (not-false _ (own .1 .1 .1 .0));
+        maximum-allowed = own .1 .1 .1 .1 .0;
       }

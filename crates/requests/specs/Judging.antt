@@ -1,4 +1,4 @@
--- A request judged by the object that it names: parts of `answerOf`, named for the functions that work them out.
+-- A request judged by the object that it names (01, "Answering a request"; numbers and order from "Refusal numbers").
 -- Assumes nothing.
 use mathlib.Core.Bool.{Bool, not, _&&_}
 use mathlib.Core.List.{List, [], _∷_}
@@ -7,24 +7,29 @@ use lib.Dec.{ltb}
 use Rattle.verdicts.specs.declared.Verdict.{Verdict}
 use Rattle.verdicts.specs.Refusals.{Refusal, refusal, verdictOf}
 use Rattle.objects.specs.declared.Object.{Object}
-use Rattle.requests.specs.declared.Request.{Request}
 use Rattle.requests.specs.Taking.{mismatchOf, operatingIn, maximumIn, requestOf}
 use Rattle.requests.specs.Limits.{reservedInRequest, voltageNotWhole, voltageOutside, operatingTooLarge, maximumTooLarge}
 
--- "23, 22, 24, 25", of a request that is taken apart
-abbrev pub limitRows : Object → Bool → Request → List Refusal
-limitRows o mismatch r =
-    refusal (voltageNotWhole o r) 23 0
-    ∷ refusal (voltageOutside o r) 22 0
-    ∷ refusal (operatingTooLarge o r) 24 0
-    ∷ refusal (maximumTooLarge o mismatch r) 25 0
+-- "23, 22, 24, 25": the limits of the object's kind
+abbrev pub limitRefusals : Object → ℕ → List Refusal
+limitRefusals o w =
+    refusal (voltageNotWhole o (requestOf o w)) 23 0
+    ∷ refusal (voltageOutside o (requestOf o w)) 22 0
+    ∷ refusal (operatingTooLarge o (requestOf o w)) 24 0
+    ∷ refusal (maximumTooLarge o (mismatchOf w) (requestOf o w)) 25 0
     ∷ []
 
-unfoldable pub limitsOf : Object → ℕ → Verdict
-limitsOf o w = verdictOf (limitRows o (mismatchOf w) (requestOf o w))
+-- "21, 23, 22, 24, 25". The place is 0 for all of these.
+abbrev pub refusalsOf : Object → ℕ → List Refusal
+refusalsOf o w = refusal (reservedInRequest o w) 21 0 ∷ limitRefusals o w
 
 unfoldable pub judgedOf : Object → ℕ → Verdict
-judgedOf o w = verdictOf (refusal (reservedInRequest o w) 21 0 ∷ limitRows o (mismatchOf w) (requestOf o w))
+judgedOf o w = verdictOf (refusalsOf o w)
+
+-- ---- parts of `judgedOf`, named for the functions that work them out
+
+unfoldable pub limitsOf : Object → ℕ → Verdict
+limitsOf o w = verdictOf (limitRefusals o w)
 
 -- "24, 25", where each figure is larger than the advertised one or not; the maximum figure may be, where bit 26 is set
 abbrev pub figureRows : Bool → Bool → ℕ → List Refusal

@@ -1,5 +1,5 @@
 pub mod Taking
 pub mod Limits
-pub mod Answering
 pub mod Judging
+pub mod Answering
 pub mod Promises

@@ -7,7 +7,8 @@ use Rattle.objects.specs.declared.Object.{Object}
 use Rattle.lists.specs.declared.Words.{Words}
 use Rattle.requests.specs.declared.Asked.{Asked}
 use Rattle.requests.specs.Taking.{positionOf, takenApart}
-use Rattle.requests.specs.Answering.{answerOf, shapedAnswer}
+use Rattle.requests.specs.Judging.{judgedOf}
+use Rattle.requests.specs.Answering.{answerOf}
 
 abbrev pub NamesPlace : ℕ → ℕ → Type 0
 NamesPlace w r = r ≡ positionOf w
@@ -15,8 +16,8 @@ NamesPlace w r = r ≡ positionOf w
 abbrev pub TakesApart : Object → ℕ → Asked → Type 0
 TakesApart o w r = r ≡ takenApart o w
 
+abbrev pub JudgesRequest : Object → ℕ → Verdict → Type 0
+JudgesRequest o w r = r ≡ judgedOf o w
+
 abbrev pub AnswersRequest : Words → ℕ → Verdict → Type 0
 AnswersRequest l w r = r ≡ answerOf l w
-
-abbrev pub AnswersShaped : Words → ℕ → Verdict → Type 0
-AnswersShaped l w r = r ≡ shapedAnswer l w

@@ -3,7 +3,8 @@ ghost use mathlib.Core.Path.{_≡_};
 ghost use Rattle.verdicts.specs.Refusals.{verdict, verdictOf};
 ghost use Rattle.steps.specs.Units.{mv25, ma10};
 ghost use Rattle.requests.specs.Limits.{besideFigures, besideVoltage, bitSet, reservedInRequest, avsTop, avsLimit};
-ghost use Rattle.requests.specs.Judging.{figureRows, figuresOf, limitsOf, judgedOf};
+ghost use Rattle.requests.specs.Judging.{figureRows, figuresOf, limitsOf};
+ghost use Rattle.requests.specs.Promises.{JudgesRequest};
 use crate::taking::avs_volts;
 use crate::taking::current;
 use crate::taking::maximum_current;
@@ -169,9 +170,9 @@ fn judge_avs(low: Ma10, high: Ma10, word: u32) -> Verdict
     placeless(verdicts::SUCCESS)
 }
 
-// A request judged by the object that it names, with that kind's limits.
-pub(crate) fn judge(o: Object, word: u32) -> Verdict
-    ensures { λ r. ⌜ r ≡ judgedOf o word ⌝ }
+// A request judged by the object that it names, with that kind's limits. The position is not looked at: here is no list.
+pub fn judge(o: Object, word: u32) -> Verdict
+    ensures { λ r. ⌜ JudgesRequest o word r ⌝ }
 {
     if reserved_bit_set(o, word) {
         return placeless(verdicts::RESERVED_BIT_IN_REQUEST);

@@ -4,7 +4,7 @@ mod judging;
 mod taking;
 
 pub use answering::answer;
-pub use answering::answer_shaped;
+pub use judging::judge;
 use steps::Ma10;
 use steps::Ma50;
 use steps::Mv20;

@@ -18,7 +18,7 @@ mod words;
 pub use flat::{flat_read, flat_write, flatten, raise};
 pub use lists::{read, shape, write};
 pub use ports::{advertise, attach, detach, remaining, request, set_up};
-pub use requests::{answer, position, take_apart};
+pub use requests::{answer, judge, position, take_apart};
 pub use rules::{build, check, default_profile};
 pub use steps::{convert, round_down, round_up};
 pub use words::{decode, encode, reserved_bit_set};

@@ -70,15 +70,24 @@ pub fn ask(list: &Words, word: u32) -> Result<Object, Verdict> {
     let Some(object) = object_at(list, position(word)) else {
         return refuse(POSITION, 0);
     };
-    match object {
-        Object::Fixed { current, .. } | Object::Variable { current, .. } => {
-            check_figures(current, word)?
-        }
-        Object::Battery { power, .. } => check_figures(power, word)?,
-        Object::Pps { max, min, current, .. } => check_pps(max, min, current, word)?,
-        Object::Avs { low, high, .. } => check_avs(low, high, word)?,
-    }
+    check_object(&object, word)?;
     Ok(object)
+}
+
+/// A request judged by the object that it names: "21, 23, 22, 24, 25".
+pub fn judge(object: &Object, word: u32) -> Verdict {
+    check_object(object, word).err().unwrap_or_default()
+}
+
+fn check_object(object: &Object, word: u32) -> Result<(), Verdict> {
+    match *object {
+        Object::Fixed { current, .. } | Object::Variable { current, .. } => {
+            check_figures(current, word)
+        }
+        Object::Battery { power, .. } => check_figures(power, word),
+        Object::Pps { max, min, current, .. } => check_pps(max, min, current, word),
+        Object::Avs { low, high, .. } => check_avs(low, high, word),
+    }
 }
 
 fn check_figures(advertised: u16, word: u32) -> Result<(), Verdict> {
@@ -99,7 +108,8 @@ fn check_pps(max: u16, min: u16, advertised: u16, word: u32) -> Result<(), Verdi
         return refuse(REQUEST_RESERVED, 0);
     }
     // The range is in 100 mV, five times the step of the request.
-    if !(5 * min..=5 * max).contains(&volts(word)) {
+    let (min, max) = (u32::from(min) * 5, u32::from(max) * 5);
+    if !(min..=max).contains(&u32::from(volts(word))) {
         return refuse(OUT_OF_RANGE, 0);
     }
     if current(word) > advertised {

@@ -10,6 +10,7 @@
 // Each test program has its own copy of this module, and none of them uses all of it.
 #![allow(dead_code)]
 
+pub mod by_value;
 pub mod convert;
 pub mod random;
 pub mod run;

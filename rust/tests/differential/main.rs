@@ -3,6 +3,8 @@
 #[path = "../common/mod.rs"]
 mod common;
 
+mod by_value_stated;
+mod changes;
 mod lists;
 mod lists_made;
 mod names;
@@ -13,6 +15,8 @@ mod requests;
 mod requests_made;
 mod rows_made;
 mod rules;
+mod standings;
+mod standings_made;
 mod steps;
 mod table;
 mod words;

@@ -1,10 +1,11 @@
 //! Long runs of sharing calls on the same rows.
 
+use crate::by_value_stated::{asked, rule_list};
 use crate::common::convert::{ToLibrary, ToModel};
 use crate::common::run::Run;
 use crate::table::Table;
 use crate::{requests, requests_made, rows_made};
-use model::{Listing, Object, Profile, Request, Row, Words};
+use model::{Listing, Row, Words};
 
 pub const NUMBERS: &[u8] = &[
     0, 3, 4, 20, 21, 22, 23, 24, 25, 30, 31, 32, 33, 34, 35, 36, 37,
@@ -132,7 +133,7 @@ impl Charger {
             let row = self.table.rows()[at];
             let list = rule_list(row);
             run.reached(requests::accepted(&list, word));
-            match power(&list, word) {
+            match asked(&list, word).1 {
                 0..15 => run.reached(BELOW_15),
                 asked if asked > u32::from(row.present) => run.reached(CUT),
                 _ => {}
@@ -158,32 +159,4 @@ impl Charger {
             self.table.set(at, row);
         }
     }
-}
-
-/// The list that a request of this row is judged on.
-fn rule_list(row: Row) -> Words {
-    let profile = Profile {
-        max: row.max,
-        present: row.present,
-        cable: row.cable,
-        rounding: 0,
-        pps: u8::from(row.pps == 1 && row.present == row.max),
-        flags: 0,
-    };
-    model::build(&profile).list
-}
-
-/// Half watts asked of a built list, rounded up, before anything is cut.
-fn power(list: &Words, word: u32) -> u32 {
-    let at = usize::from(model::position(word)) - 1;
-    let object = model::decode(list.words[at]).expect("a built word has a kind");
-    let (mv, ma) = match (object, model::take_apart(&object, word).request) {
-        (Object::Fixed { volts, .. }, Request::Fixed { operating, .. }) => {
-            (volts * 50, operating * 10)
-        }
-        (_, Request::Pps { volts, current }) => (volts * 20, current * 50),
-        (_, Request::Avs { volts, current }) => (volts * 25, current * 50),
-        _ => panic!("a built list has no battery and no variable object"),
-    };
-    (u32::from(mv) * u32::from(ma)).div_ceil(500_000)
 }

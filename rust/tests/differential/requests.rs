@@ -1,4 +1,4 @@
-//! Requests: taken apart, and answered on a list.
+//! Requests: taken apart, judged by an object, and answered on a list.
 
 use crate::common::convert::{ToLibrary, ToModel};
 use crate::common::run::Run;
@@ -7,6 +7,8 @@ use arinduleu::{board, requests};
 use model::{Object, Request, Verdict, Words};
 
 pub const NUMBERS: &[u8] = &[0, 10, 11, 12, 13, 14, 15, 16, 17, 20, 21, 22, 23, 24, 25];
+
+const JUDGED: &[u8] = &[0, 21, 22, 23, 24, 25];
 
 pub const CASES: [&str; 6] = [
     "fixed",
@@ -41,6 +43,37 @@ fn requests_taken_apart() {
 }
 
 #[test]
+fn requests_judged() {
+    let mut run = Run::new("requests judged");
+    while run.going() {
+        let object = objects_made::plausible(&mut run.random);
+        // A field may be wider than its bits: an object is judged as it stands.
+        let object = match run.random.below(4) {
+            0 => objects_made::widened(&mut run.random, object),
+            _ => object,
+        };
+        for _ in 0..8 {
+            let word = match run.random.below(8) {
+                0 => run.random.u32(),
+                _ => requests_made::of_object(&mut run.random, &object),
+            };
+            let verdict = model::judge(&object, word);
+            run.same(
+                "judge",
+                &(object, word),
+                requests::judge(object.library(), word).model(),
+                verdict,
+            );
+            run.saw(verdict.number);
+            if verdict == Verdict::default() {
+                run.reached(accepted_of(object, word));
+            }
+        }
+    }
+    run.finish(JUDGED, &CASES);
+}
+
+#[test]
 fn requests_answered() {
     let mut run = Run::new("requests answered");
     while run.going() {
@@ -53,11 +86,6 @@ fn requests_answered() {
             let word = requests_made::any(&mut run.random, &list);
             let verdict = model::answer(&list, word);
             let words = list.library();
-            // On a list whose shape passes, leaving the shape out changes nothing.
-            if model::shape(&list).number == 0 {
-                let shaped = requests::answer_shaped(words, word).model();
-                run.same("answer_shaped", &(list, word), shaped, verdict);
-            }
             run.same(
                 "answer",
                 &(list, word),
@@ -83,6 +111,10 @@ fn requests_answered() {
 pub fn accepted(list: &Words, word: u32) -> &'static str {
     let at = usize::from(model::position(word)) - 1;
     let object = model::decode(list.words[at]).expect("an accepted request names an object");
+    accepted_of(object, word)
+}
+
+fn accepted_of(object: Object, word: u32) -> &'static str {
     let asked = model::take_apart(&object, word).request;
     match (object, asked) {
         // 600 steps of 25 mV; a step of 50 mA is five of 10 mA.

@@ -20,6 +20,12 @@ pub fn any(random: &mut Random, list: &Words) -> u32 {
     (position & 0xF) << 28 | fields | mismatch(random)
 }
 
+/// Aimed at one object, with any position: here is no list.
+pub fn of_object(random: &mut Random, object: &Object) -> u32 {
+    let position = random.u32() & 0xF;
+    position << 28 | fields(random, object) | mismatch(random)
+}
+
 /// Bit 26, and 25..22, which nobody examines.
 fn mismatch(random: &mut Random) -> u32 {
     random.u32() & 0x07C0_0000
@@ -38,10 +44,12 @@ fn fields(random: &mut Random, object: &Object) -> u32 {
         Object::Pps {
             max, min, current, ..
         } => {
+            // A field may be too wide; a request has 12 bits for the voltage.
+            let steps = |volts: u16| volts.saturating_mul(5).min(0xFFF);
             let volts = match random.below(4) {
-                0 => random.near(min * 5, 12),
-                1 => random.near(max * 5, 12),
-                _ => random.within(min.min(max) * 5..=max * 5),
+                0 => random.near(steps(min), 12),
+                1 => random.near(steps(max), 12),
+                _ => random.within(steps(min.min(max))..=steps(max)),
             };
             beside_volts(random, volts, current)
         }

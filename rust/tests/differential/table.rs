@@ -1,6 +1,7 @@
 //! One table of rows, twice: the library writes one copy and the model the other. Each call goes to both, by value and over the lent
 //! rows, and every answer and every row is compared.
 
+use crate::common::by_value;
 use crate::common::convert::{ToLibrary, ToModel};
 use crate::common::run::Run;
 use arinduleu::steps::HalfWatts;
@@ -9,14 +10,16 @@ use model::{Listing, RemainingPower, Row, Verdict};
 use std::fmt::Debug;
 
 pub struct Table {
+    /// One row more than the model has: past the count lies what must not be looked at.
     library: Vec<ports::Row>,
     model: Vec<Row>,
 }
 
 impl Table {
     pub fn new(rows: Vec<Row>) -> Table {
+        let past = [ports::NO_ROW];
         Table {
-            library: rows.iter().map(|r| r.library()).collect(),
+            library: rows.iter().map(|r| r.library()).chain(past).collect(),
             model: rows,
         }
     }
@@ -31,12 +34,16 @@ impl Table {
     }
 
     pub fn set_up(&mut self, run: &mut Run, capacity: u16) -> Verdict {
-        let ports = self.by_value(run);
-        let input = (ports, capacity);
+        let input = (self.before(run), capacity);
         let answer = model::set_up(&mut self.model, capacity);
-        let value = ports::set_up(ports, HalfWatts(capacity)).model();
-        run.same("ports::set_up", &input, value, answer);
-        let lent = board::arin_set_up(&mut self.library, capacity).model();
+        let standing = self.stand(capacity, true);
+        let value = (standing.fault.model(), ports::all_or_none(standing));
+        let emptied = match answer.number {
+            0 => self.model.len(),
+            _ => 0,
+        };
+        run.same("set-up by value", &input, value, (answer, emptied));
+        let lent = board::arin_set_up(self.lent(), capacity).model();
         run.same("arin_set_up", &input, lent, answer);
         self.rows_same(run, "arin_set_up", &input);
         run.saw(answer.number);
@@ -44,12 +51,14 @@ impl Table {
     }
 
     pub fn attach(&mut self, run: &mut Run, capacity: u16, port: u8, cable: u8) -> Listing {
-        let ports = self.by_value(run);
-        let input = (ports, capacity, port, cable);
+        let input = (self.before(run), capacity, port, cable);
         let answer = model::attach(&mut self.model, capacity, port, cable);
-        let offer = ports::attach(ports, HalfWatts(capacity), port, cable);
-        self.offer_same(run, "ports::attach", &input, offer, answer, port);
-        let lent = board::arin_attach(&mut self.library, capacity, port, cable).model();
+        let (standing, own) = self.own(capacity, port);
+        let change = ports::attach(standing, own, HalfWatts(capacity), port, cable);
+        self.change_same(run, "ports::attach", &input, change, answer.verdict, port);
+        let value = ports::offer(change).model();
+        run.same("the offer of attach", &input, value, answer);
+        let lent = board::arin_attach(self.lent(), capacity, port, cable).model();
         run.same("arin_attach", &input, lent, answer);
         self.rows_same(run, "arin_attach", &input);
         run.saw(answer.verdict.number);
@@ -57,12 +66,21 @@ impl Table {
     }
 
     pub fn advertise(&mut self, run: &mut Run, capacity: u16, port: u8) -> Listing {
-        let ports = self.by_value(run);
-        let input = (ports, capacity, port);
+        let input = (self.before(run), capacity, port);
         let answer = model::advertise(&mut self.model, capacity, port);
-        let offer = ports::advertise(ports, HalfWatts(capacity), port);
-        self.offer_same(run, "ports::advertise", &input, offer, answer, port);
-        let lent = board::arin_advertise(&mut self.library, capacity, port).model();
+        let (standing, own) = self.own(capacity, port);
+        let change = ports::advertise(standing, own, HalfWatts(capacity), port);
+        self.change_same(
+            run,
+            "ports::advertise",
+            &input,
+            change,
+            answer.verdict,
+            port,
+        );
+        let value = ports::offer(change).model();
+        run.same("the offer of advertise", &input, value, answer);
+        let lent = board::arin_advertise(self.lent(), capacity, port).model();
         run.same("arin_advertise", &input, lent, answer);
         self.rows_same(run, "arin_advertise", &input);
         run.saw(answer.verdict.number);
@@ -70,12 +88,12 @@ impl Table {
     }
 
     pub fn request(&mut self, run: &mut Run, capacity: u16, port: u8, word: u32) -> Verdict {
-        let ports = self.by_value(run);
-        let input = (ports, capacity, port, word);
+        let input = (self.before(run), capacity, port, word);
         let answer = model::request(&mut self.model, capacity, port, word);
-        let change = ports::request(ports, HalfWatts(capacity), port, word);
+        let (standing, own) = self.own(capacity, port);
+        let change = ports::request(standing, own, HalfWatts(capacity), port, word);
         self.change_same(run, "ports::request", &input, change, answer, port);
-        let lent = board::arin_request(&mut self.library, capacity, port, word).model();
+        let lent = board::arin_request(self.lent(), capacity, port, word).model();
         run.same("arin_request", &input, lent, answer);
         self.rows_same(run, "arin_request", &input);
         run.saw(answer.number);
@@ -83,12 +101,12 @@ impl Table {
     }
 
     pub fn detach(&mut self, run: &mut Run, capacity: u16, port: u8) -> Verdict {
-        let ports = self.by_value(run);
-        let input = (ports, capacity, port);
+        let input = (self.before(run), capacity, port);
         let answer = model::detach(&mut self.model, capacity, port);
-        let change = ports::detach(ports, HalfWatts(capacity), port);
+        let (standing, own) = self.own(capacity, port);
+        let change = ports::detach(standing, own, HalfWatts(capacity), port);
         self.change_same(run, "ports::detach", &input, change, answer, port);
-        let lent = board::arin_detach(&mut self.library, capacity, port).model();
+        let lent = board::arin_detach(self.lent(), capacity, port).model();
         run.same("arin_detach", &input, lent, answer);
         self.rows_same(run, "arin_detach", &input);
         run.saw(answer.number);
@@ -96,55 +114,57 @@ impl Table {
     }
 
     pub fn remaining(&mut self, run: &mut Run, capacity: u16) -> RemainingPower {
-        let ports = self.by_value(run);
-        let input = (ports, capacity);
+        let input = (self.before(run), capacity);
         let answer = model::remaining(&self.model, capacity);
-        let value = ports::remaining(ports, HalfWatts(capacity)).model();
+        let standing = self.stand(capacity, false);
+        let value = ports::remaining(standing, HalfWatts(capacity)).model();
         run.same("ports::remaining", &input, value, answer);
-        let lent = board::arin_remaining(&self.library, capacity).model();
+        let lent = board::arin_remaining(self.lent(), capacity).model();
         run.same("arin_remaining", &input, lent, answer);
         self.rows_same(run, "arin_remaining", &input);
         run.saw(answer.verdict.number);
         answer
     }
 
-    /// The first eight rows. Past the count lies what must not be looked at.
-    fn by_value(&self, run: &mut Run) -> ports::Ports {
-        let stray = Row {
+    /// All rows of the library, as they are before a call. What lies past the count is something else each time.
+    fn before(&mut self, run: &mut Run) -> Vec<ports::Row> {
+        let past = Row {
             max: run.random.u16(),
             pps: 1,
             cable: 3,
             present: 15,
             held: run.random.u16(),
         };
-        ports::Ports {
-            rows: std::array::from_fn(|i| self.model.get(i).copied().unwrap_or(stray).library()),
-            count: self.model.len(),
-        }
+        let count = self.model.len();
+        self.library[count] = past.library();
+        self.library.clone()
+    }
+
+    fn lent(&mut self) -> &mut [ports::Row] {
+        let count = self.model.len();
+        &mut self.library[..count]
+    }
+
+    /// By value: how the rows stand.
+    fn stand(&self, capacity: u16, fresh: bool) -> ports::Standing {
+        by_value::stand(&self.library, self.model.len(), capacity, fresh)
+    }
+
+    /// .. and the row of a port.
+    fn own(&self, capacity: u16, port: u8) -> (ports::Standing, ports::Row) {
+        let standing = self.stand(capacity, false);
+        let own = by_value::row_of(&self.library, self.model.len(), standing, port);
+        (standing, own)
     }
 
     fn rows_same(&self, run: &mut Run, call: &str, input: &dyn Debug) {
-        assert_eq!(self.library.len(), self.model.len());
+        assert_eq!(self.library.len(), self.model.len() + 1);
         for (at, (library, model)) in self.library.iter().zip(&self.model).enumerate() {
             if library.model() != *model {
                 let row = format!("row {} after {call}", at + 1);
                 run.same(&row, input, library.model(), *model);
             }
         }
-    }
-
-    fn offer_same(
-        &self,
-        run: &mut Run,
-        call: &str,
-        input: &dyn Debug,
-        offer: ports::Offer,
-        answer: Listing,
-        port: u8,
-    ) {
-        let library = (offer.answer.model(), offer.at, offer.row.model());
-        let (at, row) = self.written(answer.verdict, port);
-        run.same(call, input, library, (answer, at, row));
     }
 
     fn change_same(

@@ -1,5 +1,8 @@
 //! Hand-worked cases that the console has no line for, one row each, and its sharing lines over what it does not show.
 
+#[path = "../common/mod.rs"]
+mod common;
+
 mod lists;
 mod making;
 mod ports;

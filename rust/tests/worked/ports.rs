@@ -1,7 +1,9 @@
-//! The sharing calls: row counts that the console has no line for.
+//! The sharing calls: row counts that the console has no line for. By value it shows that no row is asked for after 30. Over lent rows
+//! safe Rust cannot tell whether a row was read; there it is how `stand` and `row_of` are written.
 
 use crate::sharing::{by_value, empty, judged, lent, places, row, Call};
-use arinduleu::ports::Row;
+use arinduleu::ports::{self, Row};
+use arinduleu::steps::HalfWatts;
 use arinduleu::verdicts::Verdict;
 
 const EIGHT: &[Row] = &[
@@ -54,6 +56,8 @@ const EVERY_CALL: &[Call] = &[
 #[test]
 fn a_count_that_is_not_1_to_8_gets_30() {
     for &(name, count, capacity, rows) in COUNTS {
+        let standing = ports::begin(count, HalfWatts(capacity));
+        assert!(!ports::goes_on(standing, 0), "{name}: a row is asked for");
         for &call in EVERY_CALL {
             let verdict = Verdict {
                 number: 30,

@@ -1,7 +1,8 @@
 //! One sharing call, made by value and over lent rows, with something past the count.
 
+use crate::common::by_value::{row_of, stand};
 use arinduleu::lists::{Listing, Words};
-use arinduleu::ports::{Ports, Row};
+use arinduleu::ports::{Change, Row};
 use arinduleu::steps::HalfWatts;
 use arinduleu::verdicts::Verdict;
 use arinduleu::{board, ports};
@@ -74,46 +75,37 @@ fn left(left: ports::RemainingPower) -> Answer {
     }
 }
 
-/// What the call decides, and all places once the row that it names is written.
+/// What the call decides, and all places once the rows that it names are written.
 pub fn by_value(all: Places, count: usize, capacity: u16, call: Call) -> (Answer, Places) {
-    let rows: [Row; 8] = std::array::from_fn(|at| all[at]);
-    let given = Ports { rows, count };
-    let capacity = HalfWatts(capacity);
+    let standing = stand(&all, count, capacity, matches!(call, Call::SetUp));
+    let own = |port| row_of(&all, count, standing, port);
+    let watts = HalfWatts(capacity);
     let mut after = all;
-    let mut put = |at: usize, row| {
-        if at < count {
-            after[at] = row;
+    let mut put = |change: Change| {
+        if change.at < count {
+            after[change.at] = change.row;
         }
+        change
     };
     let answer = match call {
         Call::SetUp => {
-            let verdict = ports::set_up(given, capacity);
-            if verdict.number == 0 {
-                (0..count).for_each(|at| put(at, ports::emptied(all[at])));
-            }
-            judged(verdict)
+            let n = ports::all_or_none(standing);
+            after[..n].iter_mut().for_each(|r| *r = ports::emptied(*r));
+            judged(standing.fault)
         }
         Call::Attach(port, cable) => {
-            let offer = ports::attach(given, capacity, port, cable);
-            put(offer.at, offer.row);
-            listed(offer.answer)
+            let change = put(ports::attach(standing, own(port), watts, port, cable));
+            listed(ports::offer(change))
         }
         Call::Advertise(port) => {
-            let offer = ports::advertise(given, capacity, port);
-            put(offer.at, offer.row);
-            listed(offer.answer)
+            let change = put(ports::advertise(standing, own(port), watts, port));
+            listed(ports::offer(change))
         }
         Call::Request(port, word) => {
-            let change = ports::request(given, capacity, port, word);
-            put(change.at, change.row);
-            judged(change.answer)
+            judged(put(ports::request(standing, own(port), watts, port, word)).answer)
         }
-        Call::Detach(port) => {
-            let change = ports::detach(given, capacity, port);
-            put(change.at, change.row);
-            judged(change.answer)
-        }
-        Call::Remaining => left(ports::remaining(given, capacity)),
+        Call::Detach(port) => judged(put(ports::detach(standing, own(port), watts, port)).answer),
+        Call::Remaining => left(ports::remaining(standing, watts)),
     };
     (answer, after)
 }

@@ -6,10 +6,10 @@ use Rattle.console.proofs.port_calls.all_emptied.Statement.{statement}
 use Rattle.console.proofs.port_calls.all_emptied.Tie as tie
 
 abbrev Inv-loop : tie.InvT-loop
-Inv-loop ports ninth rows₀ i₀ rows i = Unit
+Inv-loop table rows₀ i₀ rows i = Unit
 
 abbrev μ-loop : tie.MeasureT-loop
-μ-loop ports ninth rows₀ i₀ rows i = 8 - i
+μ-loop table rows₀ i₀ rows i = 9 - i
 
 loop-holds : tie.Need-loop-holds Inv-loop μ-loop
 loop-holds c = search needs

@@ -13,7 +13,7 @@ with-row-requires : tie.Need-with-row-requires
 with-row-requires c κs = search needs
 
 returns-2 : tie.Need-returns-2
-returns-2 c = (λ h. absurd (omega (arith, h)), (λ h. c .with-row .ensures .1 .0, c .with-row .ensures .0))
+returns-2 c = (λ h. absurd (omega (arith, h)), (λ h. c .with-row .ensures .1, c .with-row .ensures .0))
 
 pub written-spec : {M : Type 1} → statement M
 written-spec = tie.close (tie.spec returns with-row-requires returns-2)

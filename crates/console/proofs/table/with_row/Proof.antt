@@ -7,10 +7,7 @@ use Rattle.console.proofs.table.with_row.Statement.{statement}
 use Rattle.console.proofs.table.with_row.Tie as tie
 
 returns : tie.Need-returns
-returns c = (refl, (λ h. absurd (omega (arith, h)), λ h. absurd (omega (arith, h))))
-
-returns-2 : tie.Need-returns-2
-returns-2 c = (refl, (λ h. absurd (omega (arith, h)), λ h. refl))
+returns c = (refl, λ h. absurd (omega (arith, h)))
 
 mul-rows : tie.Need-mul-rows
 mul-rows c = search needs
@@ -18,8 +15,8 @@ mul-rows c = search needs
 array-set-from-rows : tie.Need-array-set-from-rows
 array-set-from-rows c = search needs
 
-returns-3 : tie.Need-returns-3
-returns-3 c = (refl, (λ h. refl, λ h. absurd (c .before .if2 .left h)))
+returns-2 : tie.Need-returns-2
+returns-2 c = (refl, λ h. refl)
 
 pub with-row-spec : {M : Type 1} → statement M
-with-row-spec = tie.close (tie.spec returns returns-2 mul-rows array-set-from-rows returns-3)
+with-row-spec = tie.close (tie.spec returns mul-rows array-set-from-rows returns-2)

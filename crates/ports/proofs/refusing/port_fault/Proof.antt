@@ -2,65 +2,66 @@
 -- Assumes nothing.
 use mathlib.Core.Path.{_≡_, sym, _∙_}
 use mathlib.Core.List.{[]}
+use Rattle.verdicts.specs.Refusals.{verdict, success, verdictOf}
 use Rattle.verdicts.proofs.First.{hit, miss, all-missed}
 use Rattle.steps.proofs.RangeLaws.{too-low, too-high, inside}
-use Rattle.ports.specs.Refusing.{remainingRefusals, noSuchPort, portRefusals}
-use Rattle.ports.specs.Standing.{atFault, allTogether, standingOf}
-use Rattle.ports.proofs.Passing.{remaining-numbered}
-use Rattle.ports.proofs.Judged.{sum-is, stays, next}
+use Rattle.ports.specs.Refusing.{noSuchPort}
+use Rattle.ports.specs.Standing.{endRefusals, portEndRefusals}
+use Rattle.ports.proofs.Judged.{stops-at}
+use Rattle.ports.proofs.ByValue.{end-telling, succeeded, left-to}
 use borrow.Author.Needs.{needs}
 use Rattle.ports.proofs.refusing.port_fault.Statement.{statement}
 use Rattle.ports.proofs.refusing.port_fault.Tie as tie
 
-past-rows : (c : tie.Else1) → standingOf (portRefusals (c .before .before .before .args .capacity .0) (c .before .before .before .args .ports)
-    (c .before .before .before .args .port)) (c .before .before .before .args .ports) ≡ standingOf (noSuchPort
-    (c .before .before .before .args .ports) (c .before .before .before .args .port)) (c .before .before .before .args .ports)
+past-rows : (c : tie.Else1) → verdictOf (portEndRefusals (c .before .before .before .args .capacity .0)
+    (c .before .before .before .args .standing) (c .before .before .before .args .port)) ≡ verdictOf (noSuchPort
+    (c .before .before .before .args .standing .count) (c .before .before .before .args .port))
 past-rows c =
     let x = c .before .before .before .args in
-    next (remainingRefusals (x .capacity .0) (x .ports)) (x .ports) _ (c .before .before .remaining-fault .ensures)
-    (noSuchPort (x .ports) (x .port)) (remaining-numbered (x .capacity .0) (x .ports)) (c .if1 .left)
+    left-to (endRefusals (x .capacity .0) (x .standing)) (end-telling (x .capacity .0) (x .standing)) _
+    (c .before .before .end-fault .ensures) (c .if1 .left) verdict success (noSuchPort (x .standing .count) (x .port))
 
-remaining-fault-requires : tie.Need-remaining-fault-requires
-remaining-fault-requires c κs = search needs
+end-fault-requires : tie.Need-end-fault-requires
+end-fault-requires c κs = search needs
 
 returns : tie.Need-returns
 returns c =
     let x = c .before .before .before .args in
-    stays (remainingRefusals (x .capacity .0) (x .ports)) (x .ports) _ (c .before .before .remaining-fault .ensures) (noSuchPort
-    (x .ports) (x .port)) (c .if1 .taken)
+    sym (stops-at (endRefusals (x .capacity .0) (x .standing)) _ (c .before .before .end-fault .ensures) verdict success (noSuchPort
+    (x .standing .count) (x .port)) (c .if1 .taken))
 
-at-fault-requires : tie.Need-at-fault-requires
-at-fault-requires c κs = search needs
+verdict-at-requires : tie.Need-verdict-at-requires
+verdict-at-requires c κs = search needs
 
 returns-2 : tie.Need-returns-2
-returns-2 c = c .at-fault .ensures ∙ sym (past-rows (c .before .before) ∙ hit atFault _ 33 0 [] (too-low 1 _ _ (c .before .if2 .taken)))
+returns-2 c = c .verdict-at .ensures ∙ sym (past-rows (c .before .before)
+    ∙ hit verdict success 33 0 [] (too-low 1 _ _ (c .before .if2 .taken)))
 
-at-fault-requires-2 : tie.Need-at-fault-requires-2
-at-fault-requires-2 c κs = search needs
+verdict-at-requires-2 : tie.Need-verdict-at-requires-2
+verdict-at-requires-2 c κs = search needs
 
 returns-3 : tie.Need-returns-3
-returns-3 c = c .at-fault2 .ensures ∙ sym (past-rows (c .before .before .before .before)
-    ∙ hit atFault _ 33 0 [] (too-high 1 _ _ (c .before .before .before .if2 .left) (c .before .if3 .taken)))
+returns-3 c = c .verdict-at2 .ensures ∙ sym (past-rows (c .before .before .before .before)
+    ∙ hit verdict success 33 0 [] (too-high 1 _ _ (c .before .before .before .if2 .left) (c .before .if3 .taken)))
 
 returns-4 : tie.Need-returns-4
 returns-4 c =
     let p = c .before .before .before in
     let x = p .before .before .before .args in
-    let t = x .ports in
-    sum-is (remainingRefusals (x .capacity .0) t) t _ (p .before .before .remaining-fault .ensures) (remaining-numbered (x .capacity .0) t)
-    (p .if1 .left)
+    succeeded (endRefusals (x .capacity .0) (x .standing)) (end-telling (x .capacity .0) (x .standing)) _
+    (p .before .before .end-fault .ensures) (p .if1 .left)
     ∙ sym (past-rows p
-    ∙ miss atFault (allTogether t) 33 0 [] (inside 1 _ _ (c .before .before .if2 .left) (c .if3 .left))
-    ∙ all-missed atFault (allTogether t) [] tt)
+    ∙ miss verdict success 33 0 [] (inside 1 _ _ (c .before .before .if2 .left) (c .if3 .left))
+    ∙ all-missed verdict success [] tt)
 
 pub port-fault-spec : {M : Type 1} → statement M
 port-fault-spec =
     tie.close
     (tie.spec
-    remaining-fault-requires
+    end-fault-requires
     returns
-    at-fault-requires
+    verdict-at-requires
     returns-2
-    at-fault-requires-2
+    verdict-at-requires-2
     returns-3
     returns-4)

@@ -3,34 +3,25 @@
 use mathlib.Core.Path.{_≡_, sym, ap, _∙_}
 use mathlib.Core.Bool.{Bool, not}
 use mathlib.Core.List.{[]}
-use native.Mathlib.Omega.{arith}
 use borrow.Author.Tests.{eq-eqb, ne-eqb}
-use Rattle.verdicts.proofs.First.{NoneApply, hit, miss, all-missed}
-use Rattle.ports.specs.Rows.{portRow}
-use Rattle.ports.specs.Refusing.{portRefusals, notAttached, useRefusals}
-use Rattle.ports.specs.Standing.{atFault, allTogether, standingOf}
-use Rattle.ports.proofs.Passing.{port-numbered, port-low, port-at, eight-rows}
-use Rattle.ports.proofs.Judged.{clear, fault-is, sum-is, stays, next}
+use Rattle.verdicts.specs.Refusals.{verdict, success, verdictOf}
+use Rattle.verdicts.proofs.First.{hit, miss, all-missed}
+use Rattle.ports.specs.Refusing.{notAttached}
+use Rattle.ports.specs.Standing.{portEndRefusals}
+use Rattle.ports.specs.Deciding.{useEndRefusals}
+use Rattle.ports.proofs.Judged.{stops-at}
+use Rattle.ports.proofs.ByValue.{port-telling, succeeded, left-to}
 use borrow.Author.Needs.{needs}
 use Rattle.ports.proofs.refusing.use_fault.Statement.{statement}
 use Rattle.ports.proofs.refusing.use_fault.Tie as tie
 
--- past the port
-passed : (c : tie.Else1) → NoneApply (portRefusals (c .before .before .before .args .capacity .0) (c .before .before .before .args .ports)
-    (c .before .before .before .args .port))
-passed c =
-    let x = c .before .before .before .args in
-    let rs = portRefusals (x .capacity .0) (x .ports) (x .port) in
-    clear rs _ (fault-is rs (x .ports) _ (c .before .before .port-fault .ensures)) (port-numbered (x .capacity .0) (x .ports) (x .port))
-    (c .if1 .left)
-
-past-port : (c : tie.Else1) → standingOf (useRefusals (c .before .before .before .args .capacity .0) (c .before .before .before .args .ports)
-    (c .before .before .before .args .port)) (c .before .before .before .args .ports) ≡ standingOf (notAttached
-    (c .before .before .before .args .ports) (c .before .before .before .args .port)) (c .before .before .before .args .ports)
+past-port : (c : tie.Else1) → verdictOf (useEndRefusals (c .before .before .before .args .capacity .0)
+    (c .before .before .before .args .standing) (c .before .before .before .args .row) (c .before .before .before .args .port)) ≡ verdictOf
+    (notAttached (c .before .before .before .args .row) (c .before .before .before .args .port))
 past-port c =
     let x = c .before .before .before .args in
-    next (portRefusals (x .capacity .0) (x .ports) (x .port)) (x .ports) _ (c .before .before .port-fault .ensures) (notAttached
-    (x .ports) (x .port)) (port-numbered (x .capacity .0) (x .ports) (x .port)) (c .if1 .left)
+    left-to (portEndRefusals (x .capacity .0) (x .standing) (x .port)) (port-telling (x .capacity .0) (x .standing) (x .port)) _
+    (c .before .before .port-fault .ensures) (c .if1 .left) verdict success (notAttached (x .row) (x .port))
 
 port-fault-requires : tie.Need-port-fault-requires
 port-fault-requires c κs = search needs
@@ -38,59 +29,30 @@ port-fault-requires c κs = search needs
 returns : tie.Need-returns
 returns c =
     let x = c .before .before .before .args in
-    stays (portRefusals (x .capacity .0) (x .ports) (x .port)) (x .ports) _ (c .before .before .port-fault .ensures) (notAttached
-    (x .ports) (x .port)) (c .if1 .taken)
+    sym (stops-at (portEndRefusals (x .capacity .0) (x .standing) (x .port)) _ (c .before .before .port-fault .ensures) verdict success
+    (notAttached (x .row) (x .port)) (c .if1 .taken))
 
-sub-at : tie.Need-sub-at
-sub-at c =
-    let x = c .before .before .before .before .args in
-    port-low (x .capacity .0) (x .ports) (x .port) (passed (c .before))
-
-cast-at : tie.Need-cast-at
-cast-at c = search needs
-
-mul-row : tie.Need-mul-row
-mul-row c = search needs
-
-array-copy-out-row : tie.Need-array-copy-out-row
-array-copy-out-row c =
-    let x = c .before .before .before .before .args in
-    let a = port-at (x .capacity .0) (x .ports) (x .port) (passed (c .before)) in
-    let b = eight-rows (x .capacity .0) (x .ports) (x .port) (passed (c .before)) in
-    omega (arith, a, b)
-
-at-fault-requires : tie.Need-at-fault-requires
-at-fault-requires c κs = search needs
+verdict-at-requires : tie.Need-verdict-at-requires
+verdict-at-requires c κs = search needs
 
 returns-2 : tie.Need-returns-2
 returns-2 c =
-    let p = c .before .before .before .before .before in
+    let p = c .before .before .before in
     let x = p .before .before .before .args in
-    c .at-fault .ensures
+    c .verdict-at .ensures
     ∙ sym (past-port p
-    ∙ hit atFault _ 35 _ [] (ap (λ (b : Bool). not (not b)) (eq-eqb (portRow (x .ports) (x .port) .cable) 0 (c .before .if2 .taken))))
+    ∙ hit verdict success 35 _ [] (ap (λ (b : Bool). not (not b)) (eq-eqb (x .row .cable) 0 (c .before .if2 .taken))))
 
 returns-3 : tie.Need-returns-3
 returns-3 c =
-    let p = c .before .before .before .before in
+    let p = c .before .before in
     let x = p .before .before .before .args in
-    let t = x .ports in
-    sum-is (portRefusals (x .capacity .0) t (x .port)) t _ (p .before .before .port-fault .ensures) (port-numbered (x .capacity .0) t (x .port))
-    (p .if1 .left)
+    succeeded (portEndRefusals (x .capacity .0) (x .standing) (x .port)) (port-telling (x .capacity .0) (x .standing) (x .port)) _
+    (p .before .before .port-fault .ensures) (p .if1 .left)
     ∙ sym (past-port p
-    ∙ miss atFault (allTogether t) 35 (x .port) [] (ap (λ (b : Bool). not (not b)) (ne-eqb (portRow t (x .port) .cable) 0 (c .if2 .left)))
-    ∙ all-missed atFault (allTogether t) [] tt)
+    ∙ miss verdict success 35 (x .port) [] (ap (λ (b : Bool). not (not b)) (ne-eqb (x .row .cable) 0 (c .if2 .left)))
+    ∙ all-missed verdict success [] tt)
 
 pub use-fault-spec : {M : Type 1} → statement M
 use-fault-spec =
-    tie.close
-    (tie.spec
-    port-fault-requires
-    returns
-    sub-at
-    cast-at
-    mul-row
-    array-copy-out-row
-    at-fault-requires
-    returns-2
-    returns-3)
+    tie.close (tie.spec port-fault-requires returns verdict-at-requires returns-2 returns-3)

@@ -1,0 +1,72 @@
+-- `ports::judging::table_fault` meets its contract.
+-- Assumes nothing.
+use mathlib.Core.Path.{sym, _∙_}
+use mathlib.Core.List.{[]}
+use Rattle.verdicts.specs.Refusals.{verdict, success}
+use Rattle.verdicts.proofs.First.{hit, miss, all-missed}
+use Rattle.steps.proofs.RangeLaws.{too-low, too-high, inside}
+use borrow.Author.Needs.{needs}
+use Rattle.ports.proofs.judging.table_fault.Statement.{statement}
+use Rattle.ports.proofs.judging.table_fault.Tie as tie
+
+verdict-at-requires : tie.Need-verdict-at-requires
+verdict-at-requires c κs = search needs
+
+returns : tie.Need-returns
+returns c = c .verdict-at .ensures ∙ sym (hit verdict success 30 0 _ (too-low 1 8 _ (c .before .if1 .taken)))
+
+verdict-at-requires-2 : tie.Need-verdict-at-requires-2
+verdict-at-requires-2 c κs = search needs
+
+returns-2 : tie.Need-returns-2
+returns-2 c = c .verdict-at2 .ensures ∙ sym (hit verdict success 30 0 _ (too-high 1 8 _ (c .before .before .if1 .left) (c .before .if2 .taken)))
+
+cast-if3 : tie.Need-cast-if3
+cast-if3 c = search needs
+
+mul-if3 : tie.Need-mul-if3
+mul-if3 c = search needs
+
+verdict-at-requires-3 : tie.Need-verdict-at-requires-3
+verdict-at-requires-3 c κs = search needs
+
+returns-3 : tie.Need-returns-3
+returns-3 c = c .verdict-at3 .ensures
+    ∙ sym (miss verdict success 30 0 _ (inside 1 8 _ (c .before .before .before .before .if1 .left) (c .before .before .before .if2 .left))
+    ∙ hit verdict success 32 0 _ (too-low _ 1600 _ (c .before .if3 .taken)))
+
+verdict-at-requires-4 : tie.Need-verdict-at-requires-4
+verdict-at-requires-4 c κs = search needs
+
+returns-4 : tie.Need-returns-4
+returns-4 c = c .verdict-at4 .ensures
+    ∙ sym (miss verdict success 30 0 _ (inside 1 8 _ (c .before .before .before .before .before .before .if1 .left)
+    (c .before .before .before .before .before .if2 .left))
+    ∙ hit verdict success 32 0 _ (too-high _ 1600 _ (c .before .before .before .if3 .left) (c .before .if4 .taken)))
+
+verdict-at-requires-5 : tie.Need-verdict-at-requires-5
+verdict-at-requires-5 c κs = search needs
+
+returns-5 : tie.Need-returns-5
+returns-5 c = c .verdict-at5 .ensures
+    ∙ sym (miss verdict success 30 0 _ (inside 1 8 _ (c .before .before .before .before .before .before .if1 .left)
+    (c .before .before .before .before .before .if2 .left))
+    ∙ miss verdict success 32 0 _ (inside _ 1600 _ (c .before .before .before .if3 .left) (c .before .if4 .left))
+    ∙ all-missed verdict success [] tt)
+
+pub table-fault-spec : {M : Type 1} → statement M
+table-fault-spec =
+    tie.close
+    (tie.spec
+    verdict-at-requires
+    returns
+    verdict-at-requires-2
+    returns-2
+    cast-if3
+    mul-if3
+    verdict-at-requires-3
+    returns-3
+    verdict-at-requires-4
+    returns-4
+    verdict-at-requires-5
+    returns-5)
