@@ -222,7 +222,7 @@ struct arin_verdict arin_answer(struct arin_words list, uint32_t word);
 /* ---- Ports that share: capacity is in half watts, from 15 times count to 1600, and the same in each call ---- */
 
 /*
- * Empties every port: cable 0, present 0, held 15. Of the rows as lent it reads max and pps alone.
+ * Empties every port: cable 0, present 0, held 15. Of the rows as lent only max and pps matter.
  * Refusals: 30, 32, then row by row 31, 4 (the row).
  */
 struct arin_verdict arin_set_up(struct arin_row *rows, size_t count, uint16_t capacity);
