@@ -1,7 +1,7 @@
 //! Objects as one struct for all kinds.
 
 use crate::answers::*;
-use crate::lists::{check_count, scan, write, NOTHING};
+use crate::lists::{scan, try_write, NOTHING};
 use crate::{FlatObject, FlatObjects, FlatReading, Listing, Object, Objects, Verdict, Words};
 
 pub fn flatten(object: &Object) -> FlatObject {
@@ -53,21 +53,16 @@ pub fn flat_read(list: &Words) -> FlatReading {
 }
 
 pub fn flat_write(list: &FlatObjects) -> Listing {
-    match raise_all(list) {
-        Ok(objects) => write(&objects),
-        Err(verdict) => listing(Err(verdict)),
+    // An object of no kind has no field that could be too wide; nor has `NOTHING` in its place.
+    let mut objects = Objects { places: [NOTHING; 7], count: list.count };
+    let mut no_kind = 0;
+    let places = list.places.iter().zip(&mut objects.places);
+    for (place, (flat, object)) in (1..=list.count).zip(places) {
+        match raise(flat) {
+            Some(known) => *object = known,
+            None if no_kind == 0 => no_kind = place,
+            None => {}
+        }
     }
-}
-
-fn raise_all(list: &FlatObjects) -> Result<Objects, Verdict> {
-    check_count(list.count)?;
-    let mut places = [NOTHING; 7];
-    let flats = &list.places[..usize::from(list.count)];
-    for (place, (flat, object)) in (1..).zip(flats.iter().zip(&mut places)) {
-        *object = match raise(flat) {
-            Some(object) => object,
-            None => return refuse(KIND, place),
-        };
-    }
-    Ok(Objects { places, count: list.count })
+    listing(try_write(&objects, no_kind))
 }

@@ -32,13 +32,13 @@ pub fn read(list: &Words) -> Reading {
     }
 }
 
-/// "Writing checks the count, then each object for a field too wide, then the shape of the
-/// words made."
 pub fn write(list: &Objects) -> Listing {
-    listing(try_write(list))
+    listing(try_write(list, 0))
 }
 
-fn try_write(list: &Objects) -> Result<Words, Verdict> {
+/// "Writing checks the count, then each object for a field too wide, then the shape of the
+/// words made." The first object of no kind is at the place `no_kind`, or nowhere if that is 0.
+pub fn try_write(list: &Objects, no_kind: u8) -> Result<Words, Verdict> {
     check_count(list.count)?;
     let objects = &list.places[..usize::from(list.count)];
     let mut made = Words { words: [0; 7], count: list.count };
@@ -50,6 +50,9 @@ fn try_write(list: &Objects) -> Result<Words, Verdict> {
     }
     let mut scan = Scan::new();
     for (place, (object, word)) in (1..).zip(objects.iter().zip(&made.words)) {
+        if place == no_kind {
+            return refuse_kind(place);
+        }
         scan.next(place, object, *word)?;
     }
     scan.end()?;
@@ -64,7 +67,7 @@ pub fn object_at(list: &Words, place: u8) -> Option<Object> {
     decode(*list.words.get(usize::from(place) - 1)?)
 }
 
-pub fn check_count(count: u8) -> Result<(), Verdict> {
+fn check_count(count: u8) -> Result<(), Verdict> {
     if !(1..=7).contains(&count) {
         return refuse(COUNT, 0);
     }
@@ -78,13 +81,17 @@ pub fn scan(list: &Words, mut keep: impl FnMut(usize, Object)) -> Result<(), Ver
     for (at, &word) in list.words[..usize::from(list.count)].iter().enumerate() {
         let place = at as u8 + 1;
         let Some(object) = decode(word) else {
-            // 11 comes before the word by word checks.
-            return refuse(if place == 1 { FIRST_OBJECT } else { KIND }, place);
+            return refuse_kind(place);
         };
         scan.next(place, &object, word)?;
         keep(at, object);
     }
     scan.end()
+}
+
+/// An object of no kind: 11, "first object not fixed 5 V", comes before 12, "kind not allowed".
+fn refuse_kind<T>(place: u8) -> Result<T, Verdict> {
+    refuse(if place == 1 { FIRST_OBJECT } else { KIND }, place)
 }
 
 /// What the shape check remembers from word to word.

@@ -158,12 +158,6 @@ fn reading_and_writing() {
     assert_eq!(write(&list), expected);
     list.count = 0;
     assert_eq!(write(&list).verdict, said(10, 0));
-    let mut list = flat.list;
-    list.places[1].kind = 5;
-    list.places[0].current = 1024;
-    assert_eq!(flat_write(&list).verdict, said(12, 2));
-    list.count = 8;
-    assert_eq!(flat_write(&list).verdict, said(10, 0));
     let refused = read(&list_of(&[fixed(9, 300)]));
     assert_eq!((refused.verdict, refused.list.count), (said(11, 1), 0));
 }

@@ -62,6 +62,48 @@ fn shape_refusals() {
     refused(16, 4, &[five, fifteen, avs(299, 0), fixed(20, 501)]);
 }
 
+/// "10, 7, 11, then word by word 12, 13, 15, 16, 14, then 17", of objects that may be of no kind.
+#[test]
+fn flat_write_refusals() {
+    let fixed = |volts, current| FlatObject { volts, current, ..FlatObject::default() };
+    let (five, nine, falling) = (fixed(100, 300), fixed(180, 300), fixed(66, 300));
+    let (high, strong, wide) = (fixed(401, 1), fixed(400, 501), fixed(180, 1024));
+    let flagged = FlatObject { flags: 1, ..nine };
+    let lonely = FlatObject { kind: 4, low: 300, ..FlatObject::default() };
+    // Of no kind, so none of its fields is read.
+    let none = FlatObject { kind: 5, flags: 255, current: 1024, max: 65535, ..five };
+    let count = |count, places: [FlatObject; 7]| flat_write(&FlatObjects { places, count });
+    assert_eq!(count(0, [none; 7]).verdict, said(10, 0));
+    assert_eq!(count(8, [none; 7]).verdict, said(10, 0));
+    assert_eq!(count(1, [five, none, none, none, none, none, wide]).list.words[0], 0x0001_912C);
+
+    let refused = |number, place, given: &[FlatObject]| {
+        let mut list = FlatObjects { places: [none; 7], count: given.len() as u8 };
+        list.places[..given.len()].copy_from_slice(given);
+        let expected = Listing { verdict: said(number, place), list: Words::default() };
+        assert_eq!(flat_write(&list), expected);
+    };
+    refused(7, 2, &[none, wide]);
+    refused(7, 3, &[five, none, wide]);
+    refused(7, 2, &[five, wide, none, wide]);
+    refused(11, 1, &[none]);
+    refused(11, 1, &[none, high]);
+    refused(11, 1, &[nine, nine, none]);
+    refused(12, 2, &[five, none]);
+    refused(12, 2, &[five, none, falling]);
+    refused(12, 2, &[five, none, none]);
+    refused(12, 3, &[five, lonely, none]);
+    refused(13, 2, &[five, flagged, none]);
+    refused(14, 2, &[five, falling, none]);
+    refused(15, 2, &[five, high, none]);
+    refused(16, 2, &[five, strong, none]);
+    for place in 2..=7 {
+        let mut rising: [_; 7] = core::array::from_fn(|at| fixed(100 + 10 * at as u16, 300));
+        rising[place - 1].kind = 255;
+        refused(12, place as u8, &rising);
+    }
+}
+
 #[test]
 fn rule_refusals() {
     let (five, nine) = (fixed(5, 300), fixed(9, 300));
