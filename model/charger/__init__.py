@@ -14,8 +14,8 @@ from charger.measure import (
     MICROWATTS_IN_250_MW, MICROWATTS_IN_HALF_WATT, MICROWATTS_IN_100_W, rounded_down, rounded_up,
 )
 from charger.object_words import (
-    Fixed, Battery, Variable, Pps, Avs, PLACES, KIND_BITS, RESERVED, RESERVED_IN_LATER_FIXED, bits, kind_of, decode,
-    encode, has_field_too_wide, has_reserved_bit,
+    Fixed, Battery, Variable, Pps, Avs, NoKind, PLACES, KIND_BITS, RESERVED, RESERVED_IN_LATER_FIXED, bits, kind_of,
+    decode, encode, has_field_too_wide, has_reserved_bit,
 )
 from charger.lists import (
     PLACES_IN_A_LIST, Words, Objects, NO_OBJECT, in_hand, list_of_words, list_of_objects, NO_WORDS, NO_OBJECTS,

@@ -9,6 +9,10 @@ Variable = namedtuple("Variable", "max min current")         # 50 mV, 10 mA
 Pps = namedtuple("Pps", "limited max min current")           # 100 mV, 50 mA
 Avs = namedtuple("Avs", "peak low high")                     # 10 mA: 9..15 V, 15..20 V
 
+# What is none of the five: C gives the kind as a number, and any number. No
+# field of it is read, and it has no word.
+NoKind = namedtuple("NoKind", "")
+
 # "Within a kind each field is taken by its bit places" (high bit, low bit).
 PLACES = {
     Fixed: ((29, 23), (21, 20), (19, 10), (9, 0)),
@@ -43,7 +47,10 @@ def bits(word, high, low):
 
 def kind_of(word):
     """The kind is read from bits 31..30, and for 11b from bits 29..28.
-    1101b (EPR AVS) and 1111b are not allowed: they have no kind."""
+    1101b (EPR AVS) and 1111b are not allowed: they have no kind. Nor has what
+    has no word."""
+    if word is None:
+        return None
     top = bits(word, 31, 30)
     if top == 0b00:
         return Fixed
@@ -61,7 +68,10 @@ def decode(word):
 
 
 def encode(obj):
-    """The word of an object whose fields all fit their bits."""
+    """The word of an object whose fields all fit their bits; None for one of
+    no kind."""
+    if isinstance(obj, NoKind):
+        return None
     word = KIND_BITS[type(obj)]
     for figure, (_, low) in zip(obj, PLACES[type(obj)]):
         word |= figure << low
@@ -70,6 +80,8 @@ def encode(obj):
 
 def has_field_too_wide(obj):
     """7: a field too wide for its bits."""
+    if isinstance(obj, NoKind):
+        return False
     return any(figure >> (high - low + 1) for figure, (high, low) in zip(obj, PLACES[type(obj)]))
 
 

@@ -102,7 +102,8 @@ def read(words):
 @public_call(NO_WORDS)
 def write(objects):
     """Writing checks the count, then each object for a field too wide, then
-    the shape of the words made."""
+    the shape of the words made. Order: 10, 7, 11, then word by word 12, 13, 15,
+    16, 14, then 17."""
     refuse_bad_count(objects)
     for place, obj in enumerate(held_in(objects), 1):
         refuse_if(has_field_too_wide(obj), 7, place)

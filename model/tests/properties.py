@@ -1,11 +1,12 @@
 """Properties of profiles and lists, over seeded random inputs."""
 
 import random
+from collections import Counter
 
 import charger
-from charger import Avs, Battery, Fixed, Pps, Profile, Variable, Words
+from charger import Avs, Battery, Fixed, NoKind, Pps, Profile, Variable, Words
 from tests.expecting import expect
-from tests.handling import verdict
+from tests.handling import list_of, verdict
 
 
 def test_built_lists_pass():
@@ -88,3 +89,44 @@ def test_round_trips():
         covered = sorted(bit for high, low in places for bit in range(low, high + 1))
         kind_begins = 28 if kind in (Pps, Avs) else 30
         expect("every bit of %s is one field's or reserved" % kind.__name__, covered, list(range(kind_begins)))
+
+
+def widened(rng, obj):
+    """One field a step too wide for its bits."""
+    at = rng.randrange(len(obj))
+    high, low = charger.PLACES[type(obj)][at]
+    return obj._replace(**{obj._fields[at]: 1 << (high - low + 1)})
+
+
+def test_objects_of_no_kind_among_others():
+    """An object of no kind ends what is judged word by word: where no field is
+    too wide, the list refuses as the objects before it do, and else with 12."""
+    rng = random.Random(5)
+    seen = Counter()
+    for _ in range(10000):
+        objects = [charger.decode(word) for word in some_words(rng)]
+        while len(objects) < 7 and rng.random() < 0.8:
+            objects.append(Pps(0, 210, 50, 60))
+        if rng.random() < 0.5:
+            at = rng.randrange(len(objects))
+            flagged, over_100_w = Fixed(1, 0, 180, 300), Fixed(0, 0, 400, 501)
+            objects[at] = rng.choice((widened(rng, objects[at]), flagged, over_100_w))
+        unknown = sorted(rng.sample(range(len(objects)), rng.randint(1, min(2, len(objects)))))
+        for at in unknown:
+            objects[at] = NoKind()
+        wide = [place for place, obj in enumerate(objects, 1) if charger.has_field_too_wide(obj)]
+        first = unknown[0]
+        if wide:
+            want = (7, wide[0])
+            seen["7 before it" if wide[0] <= first else "7 behind it"] += 1
+        elif first == 0:
+            want = (11, 1)
+        else:
+            before = verdict(charger.shape(list_of(objects[:first])))
+            want = (12, first + 1) if before[0] in (0, 17) else before
+        answer = charger.write(charger.list_of_objects(objects))
+        expect("no kind among %r" % (objects,), answer, want + (charger.NO_WORDS,))
+        seen[want[0]] += 1
+        seen[want] += 1
+    for case in ["7 before it", "7 behind it", 11, 13, 14, 15, 16] + [(12, place) for place in range(2, 8)]:
+        expect("%s, often enough (%d)" % (case, seen[case]), seen[case] >= 20)

@@ -1,7 +1,7 @@
 """The cases of 01: those checked by hand, and what the contracts settle."""
 
 import charger
-from charger import Avs, Battery, Fixed, Pps, Profile, Row, Words
+from charger import Avs, Battery, Fixed, NoKind, Pps, Profile, Row, Words
 from tests.expecting import expect
 from tests.handling import (
     avs_built, figures, fixed_currents, list_of, objects_built, of_default, verdict, volts, words_built,
@@ -112,6 +112,44 @@ def test_orders():
     lent = [Row(100, 2, 9, 9, 9), Row(14, 0, 0, 0, 0)]
     expect("row by row 31, 4", verdict(charger.set_up(30, lent)), (4, 1))
     expect("rows are not written", lent, [Row(100, 2, 9, 9, 9), Row(14, 0, 0, 0, 0)])
+
+
+def test_objects_of_no_kind():
+    """10, 7, 11, then word by word 12, 13, 15, 16, 14, then 17, where C gives
+    an object of no kind; the console's lines cannot."""
+    five, nine, below_5, above_20 = [Fixed(0, 0, volts, 300) for volts in (100, 180, 66, 401)]
+    none, flags_200, flags_1 = NoKind(), Fixed(200, 0, 180, 300), Fixed(1, 0, 180, 300)
+    over_100_w, lonely_avs = Fixed(0, 0, 400, 501), Avs(0, 300, 0)
+
+    def refused(what, number, place, *objects):
+        answer = charger.write(charger.list_of_objects(objects))
+        expect(what, answer, (number, place, charger.NO_WORDS))
+
+    for count in (0, 8, 255):
+        answer = charger.write(charger.Objects(count, (none,) * 7))
+        expect("10 before 11", answer, (10, 0, charger.NO_WORDS))
+    past = charger.Objects(1, (five,) + (none,) * 6)
+    expect("no kind past the count", charger.write(past), (0, 0, charger.list_of_words([0x0001912C])))
+    refused("7 before 11", 7, 2, none, flags_200)
+    refused("7 behind no kind", 7, 3, five, none, flags_200)
+    refused("7 before no kind", 7, 2, five, flags_200, none)
+    refused("7 at the first such object, not at no kind between", 7, 3, five, none, flags_200, none, flags_200)
+    refused("no kind is not fixed 5 V", 11, 1, none)
+    refused("11 before a later 15", 11, 1, none, above_20)
+    refused("11 before a later 12", 11, 1, nine, none, none)
+    refused("12", 12, 2, five, none)
+    refused("12 at the first", 12, 2, five, none, none)
+    refused("12 before a later 14", 12, 2, five, none, below_5)
+    refused("12 before a later 15", 12, 2, five, none, above_20)
+    refused("13 before a later 12", 13, 2, five, flags_1, none)
+    refused("14 before a later 12", 14, 2, five, below_5, none)
+    refused("15 before a later 12", 15, 2, five, above_20, none)
+    refused("16 before a later 12", 16, 2, five, over_100_w, none)
+    refused("12 before 17", 12, 3, five, lonely_avs, none)
+    for place in range(2, 8):
+        rising = [Fixed(0, 0, 100 + 10 * at, 300) for at in range(7)]
+        rising[place - 1] = none
+        refused("12 at each place", 12, place, *rising)
 
 
 def test_accepted_currents():
