@@ -208,8 +208,9 @@ struct arin_flat_reading arin_read(struct arin_words list);
 
 /*
  * The words of a list of objects.
- * Refusals: 10; 12 for a kind that is none of the five (first such object); 7 (first such object); then those of arin_shape for
- * the words made.
+ * Refusals: 10; 7 (first such object); then those of arin_shape for the words made: 11 (place 1); word by word 12, 13, 15, 16, 14
+ * (the word); 17 (the AVS word). An object whose kind is none of the five has no field that could be too wide: it gets 11 where
+ * it is the first, else 12 at its place.
  */
 struct arin_listing arin_write(struct arin_flat_objects list);
 
