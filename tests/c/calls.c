@@ -386,8 +386,6 @@ static void writing(void)
     list = objects_36_w();
     list.places[1].current = 1024;
     CHECK(no_list(arin_write(list), ARIN_FIELD_TOO_WIDE, 2));
-    list.places[4].kind = 5;
-    CHECK(no_list(arin_write(list), ARIN_KIND_NOT_ALLOWED, 5));
     list = objects_36_w();
     list.places[0].volts = 101;
     list.places[5].limited = 2;
@@ -397,6 +395,69 @@ static void writing(void)
     list = objects_36_w();
     list.places[1].flags = 1;
     CHECK(no_list(arin_write(list), ARIN_RESERVED_BIT, 2));
+}
+
+/* The first objects of a list. Those behind them, past the count or not, are of no kind. */
+static struct arin_flat_objects starting(uint8_t count, struct arin_flat_object a, struct arin_flat_object b,
+                                         struct arin_flat_object c)
+{
+    struct arin_flat_objects list;
+    int i;
+
+    list.places[0] = a;
+    list.places[1] = b;
+    list.places[2] = c;
+    for (i = 3; i < ARIN_LIST_PLACES; i++)
+        list.places[i] = no_object(9);
+    list.count = count;
+    return list;
+}
+
+/* Kinds that are none: 10, 7 and 11 come before 12, and so does what is wrong with the words before it. */
+static void writing_no_kind(void)
+{
+    const struct arin_flat_object five = fixed(0, 100, 300), nine = fixed(0, 180, 300), fifteen = fixed(0, 300, 300);
+    const struct arin_flat_object wide = fixed(200, 180, 300), flagged = fixed(1, 180, 300);
+    const struct arin_flat_object falling = fixed(0, 66, 300), high = fixed(0, 401, 300), strong = fixed(0, 400, 501);
+    struct arin_flat_object none = no_object(5);
+    struct arin_flat_objects list;
+    int i;
+
+    CHECK(no_list(arin_write(starting(0, none, none, none)), ARIN_COUNT, 0));
+    CHECK(no_list(arin_write(starting(8, none, wide, none)), 10, 0));
+    CHECK(lists(arin_write(starting(1, five, none, wide)), words(1, 0x0001912C, 0, 0, 0, 0, 0)));
+
+    CHECK(no_list(arin_write(starting(2, none, wide, none)), ARIN_FIELD_TOO_WIDE, 2));
+    CHECK(no_list(arin_write(starting(3, five, none, wide)), 7, 3));
+    CHECK(no_list(arin_write(starting(3, five, wide, none)), 7, 2));
+
+    CHECK(no_list(arin_write(starting(1, none, none, none)), ARIN_FIRST_NOT_FIXED_5_V, 1));
+    CHECK(no_list(arin_write(starting(2, none, high, none)), 11, 1));
+    CHECK(no_list(arin_write(starting(3, nine, fifteen, no_object(9))), 11, 1));
+
+    CHECK(no_list(arin_write(starting(3, five, flagged, none)), ARIN_RESERVED_BIT, 2));
+    CHECK(no_list(arin_write(starting(3, five, falling, none)), ARIN_ORDER, 2));
+    CHECK(no_list(arin_write(starting(3, five, high, none)), ARIN_VOLTAGE_BOUND, 2));
+    CHECK(no_list(arin_write(starting(3, five, strong, none)), ARIN_POWER_OVER_100_W, 2));
+
+    CHECK(no_list(arin_write(starting(2, five, none, none)), ARIN_KIND_NOT_ALLOWED, 2));
+    CHECK(no_list(arin_write(starting(3, five, none, falling)), 12, 2));
+    CHECK(no_list(arin_write(starting(7, five, nine, fifteen)), 12, 4));
+    /* 12 comes before 17: there is no 15 V. */
+    CHECK(no_list(arin_write(starting(3, five, avs(0, 300, 0), none)), 12, 3));
+    /* The seventh of the 36 W list. */
+    list = objects_36_w();
+    list.count = 7;
+    CHECK(no_list(arin_write(list), 12, 7));
+
+    /* Every number but 0 to 4, and no field that could be too wide. */
+    none.flags = none.peak = none.limited = 255;
+    none.volts = none.max = none.min = none.power = none.current = 65535;
+    none.max100 = none.min100 = none.current50 = none.low = none.high = 65535;
+    for (i = 5; i < 256; i++) {
+        none.kind = (uint8_t)i;
+        CHECK(no_list(arin_write(starting(2, five, none, none)), 12, 2));
+    }
 }
 
 /* 600 steps of 25 mV are 15.0 V, 596 are 14.9 V, 356 are 8.9 V; 65 steps of 50 mA are 3.25 A. */
@@ -597,6 +658,7 @@ int main(void)
     shapes();
     reading();
     writing();
+    writing_no_kind();
     answers();
     marked_run();
     more_runs();
