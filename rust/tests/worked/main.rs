@@ -3,6 +3,7 @@
 #[path = "../common/mod.rs"]
 mod common;
 
+mod flat;
 mod lists;
 mod making;
 mod ports;
