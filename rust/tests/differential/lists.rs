@@ -5,7 +5,7 @@ use crate::common::random::Random;
 use crate::common::run::Run;
 use crate::{lists_made, objects_made, words};
 use arinduleu::{board, flat, lists};
-use model::{FlatObjects, Object, Objects};
+use model::{FlatObjects, Object, Objects, Verdict};
 
 pub const NUMBERS: &[u8] = &[0, 7, 10, 11, 12, 13, 14, 15, 16, 17];
 
@@ -101,11 +101,45 @@ fn lists_written() {
             written,
         );
         run.saw(written.verdict.number);
-        if written.verdict.number == 12 && written.verdict.place > 1 {
-            run.reached("no kind, behind the first");
+        if let Some(case) = no_kind(&flat, written.verdict) {
+            run.reached(case);
         }
     }
-    run.finish(NUMBERS, &["no kind, behind the first"]);
+    let before_12 = BEFORE_12.map(|case| case.2);
+    run.finish(NUMBERS, &[&before_12[..], &GIVEN_12].concat());
+}
+
+/// What a list with an object of no kind gets, whether at that object or behind it, and the case.
+const BEFORE_12: [(u8, bool, &str); 8] = [
+    (7, false, "too wide, then no kind: 7"),
+    (7, true, "no kind, then too wide: 7"),
+    (11, false, "first not 5 V, then no kind: 11"),
+    (11, true, "first of no kind: 11"),
+    (13, false, "reserved bit, then no kind: 13"),
+    (14, false, "out of order, then no kind: 14"),
+    (15, false, "past a voltage bound, then no kind: 15"),
+    (16, false, "over 100 W, then no kind: 16"),
+];
+const GIVEN_12: [&str; 6] = [
+    "no kind at 2: 12",
+    "no kind at 3: 12",
+    "no kind at 4: 12",
+    "no kind at 5: 12",
+    "no kind at 6: 12",
+    "no kind at 7: 12",
+];
+
+/// The case of a list whose count is good and that has an object of no kind.
+fn no_kind(list: &FlatObjects, said: Verdict) -> Option<&'static str> {
+    let counted = list.places.get(..usize::from(list.count))?;
+    let at = counted.iter().position(|object| object.kind > 4)?;
+    let place = at as u8 + 1;
+    if said == (Verdict { number: 12, place }) {
+        return Some(GIVEN_12[at - 1]);
+    }
+    let given = (said.number, said.place >= place);
+    let case = BEFORE_12.iter().find(|c| (c.0, c.1) == given);
+    Some(case.unwrap_or_else(|| panic!("{said:?} for {list:?}")).2)
 }
 
 /// The same objects, with stale figures in the fields that their kinds do not have, and now and then a kind that is none.
@@ -137,7 +171,7 @@ fn flat_objects(random: &mut Random, list: &Objects) -> FlatObjects {
         places: list.places.each_ref().map(place),
         count: list.count,
     };
-    if random.one_in(8) {
+    for _ in 0..random.pick(&[0, 0, 0, 0, 0, 0, 1, 2]) {
         flat.places[random.below(7)].kind = random.pick(&[5, 6, 7, 128, 255]);
     }
     flat
