@@ -1,10 +1,11 @@
 #!/usr/bin/env bash
 # The tests of the C side: the header, then the example and the tests of the calls, against each library that this machine can make.
-# The last line is `c: N passed, 0 failed, K skipped`.
+# The last line is `c: N passed, 0 failed, K skipped`; the one before it says which parts were skipped, and why.
 set -euo pipefail
 cd "$(dirname "$0")/.."
 who=c
 . tools/kit.sh
+. tools/skipping.sh
 
 case "${1:-}" in
   "") ;;
@@ -16,7 +17,8 @@ Compiles include/arinduleu.h as C11 and as C++17, and builds and runs
 examples/two_ports.c and the programs in tests/c
   - with cc, against the library that cargo makes from rust/c;
   - with the clang of the Rattle kit, against the archive of `rt staticlib board`.
-What this machine has no tools for is skipped, with one line that says so.
+What this machine has no tools for is skipped. The line before the last has
+each part that was, with the reason.
 END
     exit 0
     ;;
@@ -30,7 +32,6 @@ warnings=(-Wall -Wextra -Wpedantic -Werror)
 sources=(examples/two_ports.c tests/c/calls.c tests/c/layout.c)
 cargo_library=release/libarinduleu_c.a
 passed=0
-skipped=0
 made=$(mktemp -d)
 trap 'rm -rf "$made"' EXIT
 
@@ -39,19 +40,10 @@ pass() {
   passed=$((passed + 1))
 }
 
-skip() {
-  echo "c: skipped: $1"
-  skipped=$((skipped + 1))
-}
-
 fail() {
   echo "c: $1" >&2
-  echo "c: $passed passed, 1 failed, $skipped skipped"
+  echo "c: $passed passed, 1 failed, ${#skipped[@]} skipped"
   exit 1
-}
-
-have() {
-  command -v "$1" > /dev/null 2>&1
 }
 
 # quietly WHY COMMAND...: what the command prints is shown only where it fails.
@@ -92,7 +84,7 @@ header_as() {
   shift 2
   found=$(compilers "$@")
   if [ -z "$found" ]; then
-    skip "the header as $standard: there is none of $*"
+    skip "the header as $standard" "none of $*"
     return
   fi
   printf '#include "arinduleu.h"\n#include "arinduleu.h"\n' > "$made/header"
@@ -192,21 +184,20 @@ with_sanitizers() {
   if cc "${options[@]}" "$made/nothing.c" -o "$made/nothing" > /dev/null 2>&1 && "$made/nothing" > /dev/null 2>&1; then
     with_cc "cc with sanitizers" "${options[@]}"
   else
-    skip "the sanitizers: cc cannot build and run with them"
+    skip "the C tests with sanitizers" "cc cannot build and run with them"
   fi
 }
 
 against_cargo() {
-  local tool
-  for tool in cargo cc; do
-    have "$tool" || { skip "the cargo library: there is no $tool"; return; }
-  done
+  local why
+  why=$(lacking cargo cc)
+  [ -z "$why" ] || { skip "the C tests of the cargo library" "$why"; return; }
   cargo_build rust/target
   with_cc "cc -O2" -O2
   with_cc "cc -O0" -O0
   with_sanitizers
-  if have c++; then with_cxx; else skip "the cargo library from C++: there is no c++"; fi
-  if have timeout; then with_checks; else skip "the cargo library with rustc's checks: there is no timeout"; fi
+  if have c++; then with_cxx; else skip "the cargo library from C++" "no c++"; fi
+  if have timeout; then with_checks; else skip "the cargo library with rustc's checks" "no timeout"; fi
 }
 
 # with_kit OPTION: the programs against the kit's archive, for x86-64. The kit's clang comes without headers, so tests/c/kit has those
@@ -229,12 +220,12 @@ with_kit() {
 }
 
 against_kit() {
-  local tool
-  have rt || { skip "the kit's archive: there is no rt"; return; }
+  local tool part="the C tests of the kit's archive"
+  have rt || { skip "$part" "no rt"; return; }
   for tool in clang ld.lld; do
-    [ -x "$(kit_tools)/bin/$tool" ] || { skip "the kit's archive: the kit has no $tool for this machine"; return; }
+    [ -x "$(kit_tools)/bin/$tool" ] || { skip "$part" "the kit has no $tool for this machine"; return; }
   done
-  (runner) > /dev/null 2>&1 || { skip "the kit's archive: the kit has no emulator for this machine"; return; }
+  (runner) > /dev/null 2>&1 || { skip "$part" "the kit has no emulator for this machine"; return; }
   quietly "rt staticlib board did not pass" rt staticlib board
   with_kit -O2
   with_kit -O0
@@ -245,4 +236,5 @@ header_as c c11 cc gcc clang
 header_as c++ c++17 c++ g++ clang++
 against_cargo
 against_kit
-echo "c: $passed passed, 0 failed, $skipped skipped"
+tell_skipped
+echo "c: $passed passed, 0 failed, ${#skipped[@]} skipped"
