@@ -196,8 +196,8 @@ against_cargo() {
   with_cc "cc -O2" -O2
   with_cc "cc -O0" -O0
   with_sanitizers
-  if have c++; then with_cxx; else skip "the cargo library from C++" "no c++"; fi
-  if have timeout; then with_checks; else skip "the cargo library with rustc's checks" "no timeout"; fi
+  if have c++; then with_cxx; else skip "the C++ tests of the cargo library" "no c++"; fi
+  if have timeout; then with_checks; else skip "the C tests with rustc's checks" "no timeout"; fi
 }
 
 # with_kit OPTION: the programs against the kit's archive, for x86-64. The kit's clang comes without headers, so tests/c/kit has those
