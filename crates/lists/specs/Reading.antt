@@ -5,10 +5,8 @@ use Prim.Native.Nat.{ℕ}
 use lib.ListN.{getD, replicate}
 use Rattle.verdicts.specs.Refusals.{firstOf, verdict, success}
 use Rattle.objects.specs.declared.Object.{Object}
-use Rattle.objects.specs.declared.Object.the-variants.{Fixed}
 use Rattle.objects.specs.declared.Decoded.{Decoded}
-use Rattle.objects.specs.declared.Decoded.the-variants.{Known, NotAllowed}
-use Rattle.objects.specs.Decode.{decodeOf}
+use Rattle.objects.specs.Decode.{decodeOf, decodedSays, zeroObject}
 use Rattle.lists.specs.declared.Words.{Words}
 use Rattle.lists.specs.declared.Place.{Place}
 use Rattle.lists.specs.declared.Objects.{Objects}
@@ -17,9 +15,6 @@ use Rattle.lists.specs.Shape.{shapeRefusals}
 use Rattle.lists.specs.Seven.{sevenTo}
 
 -- "places past the count are returned as zero (an object as fixed, all fields zero)"
-abbrev pub zeroObject : Object
-zeroObject = Fixed 0 0 (record { 0 = 0 }) (record { 0 = 0 })
-
 abbrev pub emptyPlace : Place
 emptyPlace = record { object = zeroObject }
 
@@ -28,8 +23,7 @@ noObjects = record { places = replicate 7 emptyPlace; count = 0 }
 
 -- the object of a word; a list whose shape passes has one in every word
 abbrev pub objectOf : Decoded → Object
-objectOf (Known o) = o
-objectOf NotAllowed = zeroObject
+objectOf d = decodedSays d .1
 
 abbrev pub placeOf : List ℕ → ℕ → Place
 placeOf ws k = record { object = objectOf (decodeOf (getD ws k 0)) }

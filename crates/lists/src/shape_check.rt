@@ -36,11 +36,11 @@ pub enum Judged {
     Refused(Verdict),
 }
 
-// The kind stands in bits 31..30, a fixed voltage in 19..10. 5 V is 100 steps of 50 mV.
+// A fixed voltage stands in bits 19..10. 5 V is 100 steps of 50 mV.
 fn is_fixed_5_v(w: u32) -> bool
     ensures { λ r. ⌜ r ≡ isFixed5V w ⌝ }
 {
-    if (w >> 30) & 0x3 != 0 {
+    if objects::kind_bits(w) != objects::BITS_FIXED {
         return false;
     }
     (w >> 10) & 0x3FF == 100
@@ -139,7 +139,7 @@ fn judge_words(list: Words) -> Scan
 fn fixed_with(w: u32, volts: Mv50, current: Ma10) -> bool
     ensures { λ r. ⌜ r ≡ ofObject (fixedWith (mv50 volts) current) (decodeOf w) ⌝ }
 {
-    if (w >> 30) & 0x3 != 0 {
+    if objects::kind_bits(w) != objects::BITS_FIXED {
         return false;
     }
     if (w >> 10) & 0x3FF != (volts.0 as u32) {
@@ -166,13 +166,13 @@ fn has_fixed(list: Words, volts: Mv50, current: Ma10) -> bool
     false
 }
 
-// Whether a word is an AVS object (1110b in bits 31..28) that differs from the fixed objects of its list. Its currents
-// stand in bits 19..10 and 9..0. 15 V is 300 steps of 50 mV, 20 V is 400.
+// Whether a word is an AVS object that differs from the fixed objects of its list. Its currents stand in bits 19..10 and
+// 9..0. 15 V is 300 steps of 50 mV, 20 V is 400.
 fn avs_differs(list: Words, w: u32) -> bool
     requires { ⌜ list .count ≤ 7 ⌝ }
     ensures { λ r. ⌜ r ≡ ofObject (avsDiffers (list .words) (list .count)) (decodeOf w) ⌝ }
 {
-    if (w >> 28) & 0xF != 0xE {
+    if objects::kind_bits(w) != objects::BITS_AVS {
         return false;
     }
     let low = Ma10(((w >> 10) & 0x3FF) as u16);

@@ -1,12 +1,17 @@
--- `decodeOf` by the numbers in the kind's bits.
+-- `decodeOf` by the numbers in the kind's bits, and by the one number that `kindBits` makes of them.
 -- Assumes nothing.
 use mathlib.Core.Path.{_≡_, refl, ap, sym, _∙_}
-use Prim.Native.Nat.{ℕ, zero, suc, _<_}
+use mathlib.Core.Bool.{Bool, true, false, cond}
+use mathlib.Core.Logic.{_⊎_, inl, inr, ⊎-elim}
+use Prim.Native.Nat.{ℕ, zero, suc, _+_, _*_, _/_, _%_, _^_, _<_}
 use native.Mathlib.Omega.{arith}
+use lib.Pow.{mod-pow-add, shr-shr}
+use lib.Dec.{eqb}
+use borrow.Author.Tests.{eqb-true, eqb-false}
 use Rattle.objects.specs.Bits.{bits}
-use Rattle.objects.specs.Decode.{byAugmented, byKind, decodeOf}
+use Rattle.objects.specs.Decode.{byAugmented, byKind, kindBits, decodeOf}
 use Rattle.objects.specs.declared.Decoded.{Decoded}
-use Rattle.objects.specs.declared.Decoded.the-variants.{NotAllowed}
+use Rattle.objects.proofs.Taking.{bits-lt}
 
 pub kind-is : (w k : ℕ) → bits w 31 30 ≡ k → decodeOf w ≡ byKind k w
 unfolding decodeOf
@@ -15,11 +20,60 @@ kind-is w k e = ap (λ (n : ℕ). byKind n w) e
 pub augmented-is : (w m : ℕ) → bits w 31 30 ≡ 3 → bits w 29 28 ≡ m → decodeOf w ≡ byAugmented m w
 augmented-is w m e f = kind-is w 3 e ∙ ap (λ (n : ℕ). byAugmented n w) f
 
-pub last-kind : (k : ℕ) → k < 4 → (k ≡ 0 → ⊥) → (k ≡ 1 → ⊥) → (k ≡ 2 → ⊥) → k ≡ 3
-last-kind k h a b d = omega arith
+-- bits 31..28 are bits 31..30 and 29..28
+four : (w : ℕ) → bits w 31 28 ≡ bits w 31 30 * 4 + bits w 29 28
+unfolding bits
+four w = mod-pow-add (w / 2 ^ 28) 2 2 ∙ ap (λ (x : ℕ). x % 2 ^ 2 * 4 + w / 2 ^ 28 % 2 ^ 2) (shr-shr w 28 2)
 
-pub not-allowed : (m w : ℕ) → (m ≡ 0 → ⊥) → (m ≡ 2 → ⊥) → byAugmented m w ≡ NotAllowed
-not-allowed zero w a b = absurd (a refl)
-not-allowed (suc zero) w a b = refl
-not-allowed (suc (suc zero)) w a b = absurd (b refl)
-not-allowed (suc (suc (suc m))) w a b = refl
+module _ (w : ℕ) where
+  -- 11b goes on in bits 29..28, and no other kind does
+  pub kind-short : (bits w 31 30 ≡ 3 → ⊥) → kindBits w ≡ bits w 31 30
+  unfolding kindBits
+  kind-short f = go (eqb (bits w 31 30) 3) refl where
+    go : (b : Bool) → eqb (bits w 31 30) 3 ≡ b → cond b (bits w 31 28) (bits w 31 30) ≡ bits w 31 30
+    go true e = absurd (f (eqb-true (bits w 31 30) 3 e))
+    go false e = refl
+
+  pub kind-long : bits w 31 30 ≡ 3 → kindBits w ≡ bits w 31 28
+  unfolding kindBits
+  kind-long f = go (eqb (bits w 31 30) 3) refl where
+    go : (b : Bool) → eqb (bits w 31 30) 3 ≡ b → cond b (bits w 31 28) (bits w 31 30) ≡ bits w 31 28
+    go true e = refl
+    go false e = absurd (eqb-false (bits w 31 30) 3 e f)
+
+  -- the three short kinds are below 3; the four long ones are 12 to 15
+  pub short-or-long : ((kindBits w ≡ bits w 31 30) × (bits w 31 30 < 3)) ⊎ ((bits w 31 30 ≡ 3) × (kindBits w ≡ 12 + bits w 29 28))
+  short-or-long = go (eqb (bits w 31 30) 3) refl where
+    go : (b : Bool) → eqb (bits w 31 30) 3 ≡ b → ((kindBits w ≡ bits w 31 30) × (bits w 31 30 < 3)) ⊎ ((bits w 31 30 ≡ 3) × (kindBits w ≡ 12 + bits w 29 28))
+    go true e = let x = eqb-true (bits w 31 30) 3 e in inr (x, kind-long x ∙ omega (arith, four w, x))
+    go false e = let f = eqb-false (bits w 31 30) 3 e in inl (kind-short f, omega (arith, f, bits-lt w 31 30))
+
+  pub short-kind : (k : ℕ) → k < 3 → kindBits w ≡ k → bits w 31 30 ≡ k
+  short-kind k h e = ⊎-elim (λ x. sym (x .0) ∙ e) (λ x. absurd (omega (arith, x .1, h, e))) short-or-long
+
+  pub long-kind : (m : ℕ) → kindBits w ≡ 12 + m → (bits w 31 30 ≡ 3) × (bits w 29 28 ≡ m)
+  long-kind m e = ⊎-elim (λ x. absurd (omega (arith, x .0, x .1, e))) (λ x. (x .0, omega (arith, x .1, e))) short-or-long
+
+  -- so a word is decoded by this one number
+  pub short-is : (k : ℕ) → k < 3 → kindBits w ≡ k → decodeOf w ≡ byKind k w
+  short-is k h e = kind-is w k (short-kind k h e)
+
+  pub long-is : (m : ℕ) → kindBits w ≡ 12 + m → decodeOf w ≡ byAugmented m w
+  long-is m e = let x = long-kind m e in augmented-is w m (x .0) (x .1)
+
+  -- and there is no other
+  pub no-other-kind : (kindBits w ≡ 0 → ⊥) → (kindBits w ≡ 1 → ⊥) → (kindBits w ≡ 2 → ⊥) → (kindBits w ≡ 12 → ⊥) → (kindBits w ≡ 13 → ⊥)
+      → (kindBits w ≡ 14 → ⊥) → (kindBits w ≡ 15 → ⊥) → ⊥
+  no-other-kind a b d f g h i = ⊎-elim (λ x. short (bits w 31 30) (x .1) (x .0)) (λ x. long (bits w 29 28) (bits-lt w 29 28) (x .1)) short-or-long where
+    short : (k : ℕ) → k < 3 → kindBits w ≡ k → ⊥
+    short zero l e = a e
+    short (suc zero) l e = b e
+    short (suc (suc zero)) l e = d e
+    short (suc (suc (suc k))) l e = omega arith
+
+    long : (m : ℕ) → m < 4 → kindBits w ≡ 12 + m → ⊥
+    long zero l e = f e
+    long (suc zero) l e = g e
+    long (suc (suc zero)) l e = h e
+    long (suc (suc (suc zero))) l e = i e
+    long (suc (suc (suc (suc m)))) l e = omega arith

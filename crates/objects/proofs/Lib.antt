@@ -2,6 +2,7 @@ pub mod Taking
 pub mod Putting
 pub mod Rows
 pub mod Cases
+pub mod Saying
 pub mod Others
 pub mod RoundTrip
 pub mod Numbers

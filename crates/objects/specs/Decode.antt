@@ -1,6 +1,6 @@
 -- What a word says (01, "Object words").
 -- Assumes nothing.
-use mathlib.Core.Bool.{Bool, true, false, not, _&&_}
+use mathlib.Core.Bool.{Bool, true, false, cond, not, _&&_, _||_}
 use Prim.Native.Nat.{ℕ, zero, suc}
 use lib.Dec.{eqb}
 use Rattle.objects.specs.Bits.{bits}
@@ -33,6 +33,10 @@ avsOf w = Avs (bits w 27 26) (record { 0 = bits w 19 10 }) (record { 0 = bits w 
 
 -- ---- "The kind is read from bits 31..30, and for 11b from bits 29..28."
 
+-- the number in these bits: 00b, 01b, 10b, or 1100b to 1111b
+unfoldable pub kindBits : ℕ → ℕ
+kindBits w = cond (eqb (bits w 31 30) 3) (bits w 31 28) (bits w 31 30)
+
 -- 11b: 00b is PPS and 10b SPR AVS. "1101b (EPR AVS) and 1111b are not allowed in an SPR list."
 abbrev pub byAugmented : ℕ → ℕ → Decoded
 byAugmented zero w = Known (ppsOf w)
@@ -49,10 +53,28 @@ byKind (suc (suc (suc k))) w = byAugmented (bits w 29 28) w
 unfoldable pub decodeOf : ℕ → Decoded
 decodeOf w = byKind (bits w 31 30) w
 
--- 01's number for each answer: 0, or 12 for a kind that is not allowed
+-- ---- what each answer says: 01's number, and the object
+
+-- "an object as fixed, all fields zero"
+abbrev pub zeroObject : Object
+zeroObject = Fixed 0 0 (record { 0 = 0 }) (record { 0 = 0 })
+
+-- 12: "kind not allowed". "A refusal returns its number .. and zero for all else."
+abbrev pub decodedSays : Decoded → ℕ × Object
+decodedSays (Known o) = (0, o)
+decodedSays NotAllowed = (12, zeroObject)
+
 abbrev pub decodedNumber : Decoded → ℕ
-decodedNumber (Known o) = 0
-decodedNumber NotAllowed = 12
+decodedNumber d = decodedSays d .0
+
+-- ---- what is to be said of a word
+
+-- "1101b (EPR AVS) and 1111b are not allowed in an SPR list."
+abbrev pub kindNotAllowed : ℕ → Bool
+kindNotAllowed w = eqb (bits w 31 30) 3 && (eqb (bits w 29 28) 1 || eqb (bits w 29 28) 3)
+
+abbrev pub decodeSays : ℕ → ℕ × Object
+decodeSays w = cond (kindNotAllowed w) (12, zeroObject) (0, decodedSays (decodeOf w) .1)
 
 -- ---- reserved bits, by the kind and by whether the word is the first of its list
 

@@ -1,6 +1,6 @@
 -- The word of an object (01, "Object words"): its fields at their bit places, the lowest first. Reserved bits are 0, and the kind stands last.
 -- Assumes nothing.
-use mathlib.Core.Bool.{Bool, true, false}
+use mathlib.Core.Bool.{Bool, true, false, cond}
 use mathlib.Core.List.{List, [], _∷_}
 use Prim.Native.Nat.{ℕ}
 use Rattle.objects.specs.Layout.{Field, field, allFit, joined}
@@ -43,7 +43,16 @@ wordOf fs = ifFit (allFit fs) (joined fs)
 abbrev pub encodeOf : Object → Encoded
 encodeOf o = wordOf (fieldsOf o)
 
--- 01's number for each answer: 0, or 7 for a field too wide
+-- ---- what each answer says: 01's number, and the word
+
+-- 7: "a field too wide for its bits". "A refusal returns its number .. and zero for all else."
+abbrev pub encodedSays : Encoded → ℕ × ℕ
+encodedSays (Word w) = (0, w)
+encodedSays TooWide = (7, 0)
+
 abbrev pub encodedNumber : Encoded → ℕ
-encodedNumber (Word w) = 0
-encodedNumber TooWide = 7
+encodedNumber e = encodedSays e .0
+
+-- what is to be said of an object
+abbrev pub encodeSays : Object → ℕ × ℕ
+encodeSays o = cond (allFit (fieldsOf o)) (0, joined (fieldsOf o)) (7, 0)

@@ -6,14 +6,17 @@ use Prim.Native.Nat.{ℕ}
 use Rattle.objects.specs.declared.Object.{Object}
 use Rattle.objects.specs.declared.Decoded.{Decoded}
 use Rattle.objects.specs.declared.Encoded.{Encoded}
-use Rattle.objects.specs.Decode.{decodeOf, reservedSet}
-use Rattle.objects.specs.Encode.{encodeOf}
+use Rattle.objects.specs.Decode.{kindBits, decodedSays, decodeSays, reservedSet}
+use Rattle.objects.specs.Encode.{encodedSays, encodeSays}
+
+abbrev pub TellsKind : ℕ → ℕ → Type 0
+TellsKind w r = r ≡ kindBits w
 
 abbrev pub Decodes : ℕ → Decoded → Type 0
-Decodes w r = r ≡ decodeOf w
+Decodes w r = decodedSays r ≡ decodeSays w
 
 abbrev pub TellsReserved : Object → Bool → ℕ → Bool → Type 0
 TellsReserved o first w r = r ≡ reservedSet o first w
 
 abbrev pub Encodes : Object → Encoded → Type 0
-Encodes o r = r ≡ encodeOf o
+Encodes o r = encodedSays r ≡ encodeSays o

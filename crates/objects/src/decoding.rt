@@ -1,7 +1,14 @@
 // From a word to an object. The fields are taken by shifts and masks at the bit places that 01 gives.
-ghost use Rattle.objects.specs.Promises.{Decodes, TellsReserved};
+ghost use Rattle.objects.specs.Promises.{TellsKind, Decodes, TellsReserved};
 ghost use Rattle.objects.specs.Decode.{fixedOf, batteryOf, variableOf, ppsOf, avsOf};
 ghost use mathlib.Core.Path.{_≡_};
+use crate::BITS_AVS;
+use crate::BITS_BATTERY;
+use crate::BITS_EPR_AVS;
+use crate::BITS_FIXED;
+use crate::BITS_PPS;
+use crate::BITS_UNASSIGNED;
+use crate::BITS_VARIABLE;
 use crate::Decoded;
 use crate::Object;
 use steps::Ma10;
@@ -62,23 +69,31 @@ fn avs(w: u32) -> Object
     }
 }
 
+// The number that tells the kind: bits 31..30, and for 11b with bits 29..28 behind them. One of those above.
+pub fn kind_bits(w: u32) -> u32
+    ensures { λ r. ⌜ TellsKind w r ⌝ }
+{
+    let kind = (w >> 30) & 0x3;
+    if kind != 0x3 {
+        return kind;
+    }
+    (w >> 28) & 0xF
+}
+
 // What a word says. It does not look at reserved bits: `reserved_bit_set` does.
 pub fn decode(w: u32) -> Decoded
     ensures { λ r. ⌜ Decodes w r ⌝ }
 {
-    let kind = (w >> 30) & 0x3;
+    let kind = kind_bits(w);
     match kind {
-        0 => Decoded::Known(fixed(w)),
-        1 => Decoded::Known(battery(w)),
-        2 => Decoded::Known(variable(w)),
-        _ => {
-            let augmented = (w >> 28) & 0x3;
-            match augmented {
-                0 => Decoded::Known(pps(w)),
-                2 => Decoded::Known(avs(w)),
-                _ => Decoded::NotAllowed,
-            }
-        }
+        BITS_FIXED => Decoded::Known(fixed(w)),
+        BITS_BATTERY => Decoded::Known(battery(w)),
+        BITS_VARIABLE => Decoded::Known(variable(w)),
+        BITS_PPS => Decoded::Known(pps(w)),
+        BITS_EPR_AVS => Decoded::NotAllowed,
+        BITS_AVS => Decoded::Known(avs(w)),
+        BITS_UNASSIGNED => Decoded::NotAllowed,
+        _ => Decoded::NotAllowed,
     }
 }
 

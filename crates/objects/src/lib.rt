@@ -9,11 +9,28 @@ mod decoding;
 mod encoding;
 
 pub use decoding::decode;
+pub use decoding::kind_bits;
 pub use decoding::reserved_bit_set;
 pub use encoding::avs_word;
 pub use encoding::encode;
 pub use encoding::fixed_word;
 pub use encoding::pps_word;
+
+// The bits that tell the kind of a word, as 01 writes them: 31..30, and for 11b with 29..28 behind them.
+pub const BITS_FIXED: u32 = 0b00;
+
+pub const BITS_BATTERY: u32 = 0b01;
+
+pub const BITS_VARIABLE: u32 = 0b10;
+
+pub const BITS_PPS: u32 = 0b1100;
+
+pub const BITS_AVS: u32 = 0b1110;
+
+// "1101b (EPR AVS) and 1111b are not allowed in an SPR list."
+pub const BITS_EPR_AVS: u32 = 0b1101;
+
+pub const BITS_UNASSIGNED: u32 = 0b1111;
 
 // One of five kinds, with the fields of its own kind. `Fixed` stays the first: an empty place is a fixed object with
 // all fields zero.

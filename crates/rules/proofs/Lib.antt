@@ -12,6 +12,7 @@ pub mod Steps
 pub mod Followed
 pub mod Slots
 pub mod Places
+pub mod Saying
 pub mod Counting
 pub mod Positions
 pub mod Rising

@@ -13,7 +13,7 @@ use Rattle.objects.specs.Encode.{encodeOf}
 use Rattle.lists.specs.declared.Words.{Words}
 use Rattle.lists.specs.declared.Listing.{Listing}
 use Rattle.lists.specs.Seven.{sevenTo}
-use Rattle.lists.specs.Reading.{zeroObject}
+use Rattle.objects.specs.Decode.{zeroObject}
 use Rattle.lists.specs.Writing.{wordIn, writeRefused}
 use Rattle.rules.specs.declared.Profile.{Profile}
 use Rattle.rules.specs.Profiles.{buildRefusals}

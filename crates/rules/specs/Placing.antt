@@ -11,7 +11,15 @@ use Rattle.rules.specs.declared.Placed.{Placed}
 use Rattle.rules.specs.declared.Placed.the-variants.{Word, NoPlace}
 use Rattle.rules.specs.Building.{wordFor, builtCount}
 
--- places count from 1 to the count
+-- What each answer says: 01's number, and the word. 20: "position not 1..count".
+abbrev pub placedSays : Placed → ℕ × ℕ
+placedSays (Word w) = (0, w)
+placedSays NoPlace = (20, 0)
+
+-- what is to be said of a place: places count from 1 to the count
+abbrev pub placeSays : Words → ℕ → ℕ × ℕ
+placeSays l place = cond (within 1 (l .count) place) (0, getD (l .words) (place - 1) 0) (20, 0)
+
 unfoldable pub placedIn : Words → ℕ → Placed
 placedIn l place = cond (within 1 (l .count) place) (Word (getD (l .words) (place - 1) 0)) NoPlace
 

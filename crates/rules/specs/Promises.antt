@@ -12,7 +12,7 @@ use Rattle.rules.specs.declared.Profiled.{Profiled}
 use Rattle.rules.specs.declared.Placed.{Placed}
 use Rattle.rules.specs.Profiles.{badCable, defaultOf}
 use Rattle.rules.specs.Building.{builtOf}
-use Rattle.rules.specs.Placing.{placedIn}
+use Rattle.rules.specs.Placing.{placedSays, placeSays}
 use Rattle.rules.specs.Checking.{checkedOf}
 
 abbrev pub TellsBadCable : ℕ → Bool → Type 0
@@ -25,7 +25,7 @@ abbrev pub Builds : Profile → Listing → Type 0
 Builds p r = r ≡ builtOf p
 
 abbrev pub PlacesWord : Profile → ℕ → Placed → Type 0
-PlacesWord p place r = r ≡ placedIn (builtOf p .list) place
+PlacesWord p place r = placedSays r ≡ placeSays (builtOf p .list) place
 
 abbrev pub Checks : Profile → Words → Verdict → Type 0
 Checks p l r = r ≡ checkedOf p l

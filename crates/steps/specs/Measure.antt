@@ -1,4 +1,5 @@
 -- A figure in one step of measure, given in another: 01, "Steps of measure".
+-- Assumes nothing.
 use mathlib.Core.Bool.{Bool, true, false, _&&_}
 use Prim.Native.Nat.{ℕ, _*_}
 use lib.Dec.{ltb, eqb}
@@ -18,44 +19,51 @@ use Rattle.steps.specs.declared.InMa10.the-variants as ma10
 use Rattle.steps.specs.declared.InMa50.{InMa50}
 use Rattle.steps.specs.declared.InMa50.the-variants as ma50
 
+-- ---- what is to be answered
+
 -- "Converting one loses nothing": m steps of this size are the same measure, and m fits 16 bits.
 abbrev pub stands : ℕ → ℕ → ℕ → Bool
 stands measure step m = eqb (m * step) measure && ltb m 65536
 
--- ".. or refuses".
-abbrev pub orLost : Bool → ℕ → Scaled
-orLost true m = Exactly m
-orLost false m = Lost
+-- ".. or refuses": whether it is refused, and the figure, zero where it is. 01 has no number for this refusal.
+abbrev pub orRefused : Bool → ℕ → Bool × ℕ
+orRefused true m = (false, m)
+orRefused false m = (true, 0)
 
 -- Of all m only the whole steps in the measure can stand for it.
-abbrev pub countOf : ℕ → ℕ → Scaled
-countOf measure step = orLost (stands measure step (downOf measure step)) (downOf measure step)
+abbrev pub countOf : ℕ → ℕ → Bool × ℕ
+countOf measure step = orRefused (stands measure step (downOf measure step)) (downOf measure step)
 
 -- A figure in steps of the size `from`, given in steps of the size `to`. The measure, in mV or mA, stays the same.
-unfoldable pub rescaleOf : ℕ → ℕ → ℕ → Scaled
-rescaleOf figure from to = countOf (figure * from) to
+unfoldable pub convertedOf : ℕ → ℕ → ℕ → Bool × ℕ
+convertedOf figure from to = countOf (figure * from) to
 
--- "Each step is kept apart": the answer in each step has a type of its own.
-unfoldable pub inMv20 : Scaled → InMv20
-inMv20 (Exactly m) = mv20.Exact (record { 0 = m })
-inMv20 Lost = mv20.Refused
+-- ---- what each answer says: "Each step is kept apart", so the answer in each step has a type of its own
 
-unfoldable pub inMv25 : Scaled → InMv25
-inMv25 (Exactly m) = mv25.Exact (record { 0 = m })
-inMv25 Lost = mv25.Refused
+abbrev pub scaledSays : Scaled → Bool × ℕ
+scaledSays (Exactly m) = (false, m)
+scaledSays Lost = (true, 0)
 
-unfoldable pub inMv50 : Scaled → InMv50
-inMv50 (Exactly m) = mv50.Exact (record { 0 = m })
-inMv50 Lost = mv50.Refused
+abbrev pub mv20Says : InMv20 → Bool × ℕ
+mv20Says (mv20.Exact v) = (false, v .0)
+mv20Says mv20.Refused = (true, 0)
 
-unfoldable pub inMv100 : Scaled → InMv100
-inMv100 (Exactly m) = mv100.Exact (record { 0 = m })
-inMv100 Lost = mv100.Refused
+abbrev pub mv25Says : InMv25 → Bool × ℕ
+mv25Says (mv25.Exact v) = (false, v .0)
+mv25Says mv25.Refused = (true, 0)
 
-unfoldable pub inMa10 : Scaled → InMa10
-inMa10 (Exactly m) = ma10.Exact (record { 0 = m })
-inMa10 Lost = ma10.Refused
+abbrev pub mv50Says : InMv50 → Bool × ℕ
+mv50Says (mv50.Exact v) = (false, v .0)
+mv50Says mv50.Refused = (true, 0)
 
-unfoldable pub inMa50 : Scaled → InMa50
-inMa50 (Exactly m) = ma50.Exact (record { 0 = m })
-inMa50 Lost = ma50.Refused
+abbrev pub mv100Says : InMv100 → Bool × ℕ
+mv100Says (mv100.Exact v) = (false, v .0)
+mv100Says mv100.Refused = (true, 0)
+
+abbrev pub ma10Says : InMa10 → Bool × ℕ
+ma10Says (ma10.Exact v) = (false, v .0)
+ma10Says ma10.Refused = (true, 0)
+
+abbrev pub ma50Says : InMa50 → Bool × ℕ
+ma50Says (ma50.Exact v) = (false, v .0)
+ma50Says ma50.Refused = (true, 0)

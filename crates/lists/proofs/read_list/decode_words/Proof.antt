@@ -9,6 +9,7 @@ use native.Mathlib.Omega.{arith}
 use lib.ListN.{getD, set}
 use Rattle.objects.specs.declared.Decoded.{Decoded}
 use Rattle.objects.specs.Decode.{decodeOf}
+use Rattle.objects.proofs.Saying.{decoded-is}
 use Rattle.lists.specs.declared.Place.{Place}
 use Rattle.lists.specs.declared.Objects.{Objects}
 use Rattle.lists.specs.Seven.{sevenTo}
@@ -71,9 +72,9 @@ loop-again c =
       omega arith,
       ⊎-elim
           (λ w. w .3
-          ∙ ap₂ (λ (ps : List Place) (p : Place). set ps (at .i) p) (at .inv .1) (sym (ap placed (sym (c .before .decode .ensures) ∙ w .1 .given .1)))
+          ∙ ap₂ (λ (ps : List Place) (p : Place). set ps (at .i) p) (at .inv .1) (sym (ap placed (sym (decoded-is _ _ (c .before .decode .ensures)) ∙ w .1 .given .1)))
           ∙ one-filled f emptyPlace (at .i) below)
-          (λ w. w .2 ∙ at .inv .1 ∙ one-blank f emptyPlace (at .i) below (ap placed (sym (c .before .decode .ensures) ∙ w .1 .given .1)))
+          (λ w. w .2 ∙ at .inv .1 ∙ one-blank f emptyPlace (at .i) below (ap placed (sym (decoded-is _ _ (c .before .decode .ensures)) ∙ w .1 .given .1)))
           (c .match .came),
     )
 

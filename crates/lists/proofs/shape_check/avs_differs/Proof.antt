@@ -7,7 +7,7 @@ use mathlib.Core.List.{List}
 use Prim.Native.Nat.{ℕ, _/_, _^_}
 use lib.Bits.{bitAnd}
 use Rattle.objects.specs.Asking.{ofObject}
-use Rattle.objects.specs.Decode.{decodeOf}
+use Rattle.objects.specs.Decode.{kindBits, decodeOf}
 use Rattle.objects.proofs.Taking.{taken, taken-low, taken-fits, low-fits}
 use Rattle.lists.specs.Shape.{avsMatches, avsDiffers}
 use Rattle.lists.proofs.Telling.{no-avs, an-avs}
@@ -16,24 +16,30 @@ use Rattle.lists.proofs.shape_check.avs_differs.Statement.{statement}
 use Rattle.lists.proofs.shape_check.avs_differs.Tie as tie
 
 -- an AVS word, by the currents taken out of it
-as-taken : (ws : List ℕ) (n w : ℕ) → bitAnd (w / 2 ^ 28) 15 ≡ 14
+as-taken : (ws : List ℕ) (n w : ℕ) → kindBits w ≡ 14
     → ofObject (avsDiffers ws n) (decodeOf w) ≡ not (avsMatches ws n (record { 0 = bitAnd (w / 2 ^ 10) 1023 }) (record { 0 = bitAnd w 1023 }))
 unfolding avsDiffers
 as-taken ws n w e =
-    an-avs (λ low high. not (avsMatches ws n low high)) w (sym (taken w 31 28) ∙ e)
+    an-avs (λ low high. not (avsMatches ws n low high)) w e
     ∙ ap₂ (λ (l h : ℕ). not (avsMatches ws n (record { 0 = l }) (record { 0 = h }))) (sym (taken w 19 10)) (sym (taken-low w 9))
+
+is-avs : (c : tie.Else1) → kindBits (c .before .before .args .w) ≡ 14
+is-avs c = sym (c .before .kind-bits .ensures) ∙ c .if1 .left
+
+kind-bits-requires : tie.Need-kind-bits-requires
+kind-bits-requires c κs = search needs
 
 returns : tie.Need-returns
 unfolding avsDiffers
 returns c =
-    let x = c .before .args in
-    sym (no-avs (λ low high. not (avsMatches (x .list .words) (x .list .count) low high)) (x .w) (λ e. c .if1 .taken (taken (x .w) 31 28 ∙ e)))
+    let x = c .before .before .args in
+    sym (no-avs (λ low high. not (avsMatches (x .list .words) (x .list .count) low high)) (x .w) (λ e. c .if1 .taken (c .before .kind-bits .ensures ∙ e)))
 
 cast-t8 : tie.Need-cast-t8
-cast-t8 c = taken-fits (c .before .args .w) 19 10 tt
+cast-t8 c = taken-fits (c .before .before .args .w) 19 10 tt
 
 cast-t8-2 : tie.Need-cast-t8-2
-cast-t8-2 c = low-fits (c .before .args .w) 9 tt
+cast-t8-2 c = low-fits (c .before .before .args .w) 9 tt
 
 has-fixed-requires : tie.Need-has-fixed-requires
 has-fixed-requires c κs = search needs
@@ -41,8 +47,8 @@ has-fixed-requires c κs = search needs
 returns-2 : tie.Need-returns-2
 returns-2 c =
     let a = c .before .before .before in
-    let x = a .before .before .args in
-    sym (as-taken (x .list .words) (x .list .count) (x .w) (a .before .if1 .left)
+    let x = a .before .before .before .args in
+    sym (as-taken (x .list .words) (x .list .count) (x .w) (is-avs (a .before))
     ∙ ends-at-15-V _ _ _ _ (sym (a .has-fixed .ensures) ∙ c .before .before .if2 .taken) (c .if3 .taken))
 
 has-fixed-requires-2 : tie.Need-has-fixed-requires-2
@@ -51,22 +57,23 @@ has-fixed-requires-2 c κs = search needs
 returns-3 : tie.Need-returns-3
 returns-3 c =
     let a = c .before .before .before .before in
-    let x = a .before .before .args in
+    let x = a .before .before .before .args in
     ap not (c .has-fixed2 .ensures)
-    ∙ sym (as-taken (x .list .words) (x .list .count) (x .w) (a .before .if1 .left)
+    ∙ sym (as-taken (x .list .words) (x .list .count) (x .w) (is-avs (a .before))
     ∙ by-20-V _ _ _ _ (sym (a .has-fixed .ensures) ∙ c .before .before .before .if2 .taken) (c .before .if3 .left))
 
 returns-4 : tie.Need-returns-4
 returns-4 c =
     let a = c .before in
-    let x = a .before .before .args in
-    sym (as-taken (x .list .words) (x .list .count) (x .w) (a .before .if1 .left)
+    let x = a .before .before .before .args in
+    sym (as-taken (x .list .words) (x .list .count) (x .w) (is-avs (a .before))
     ∙ no-15-V _ _ _ (record { 0 = bitAnd (x .w) 1023 }) (sym (a .has-fixed .ensures) ∙ c .if2 .left))
 
 pub avs-differs-spec : {M : Type 1} → statement M
 avs-differs-spec =
     tie.close
     (tie.spec
+    kind-bits-requires
     returns
     cast-t8
     cast-t8-2

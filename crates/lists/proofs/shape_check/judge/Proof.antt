@@ -6,6 +6,7 @@ use Prim.Native.Nat.{ℕ}
 use Rattle.objects.specs.declared.Object.{Object}
 use Rattle.objects.specs.declared.Decoded.the-variants.{Known, NotAllowed}
 use Rattle.objects.specs.Decode.{decodeOf, reservedSet}
+use Rattle.objects.proofs.Saying.{decoded-is}
 use Rattle.lists.specs.ObjectRules.{outOfBounds, over100W}
 use Rattle.lists.specs.declared.shape_check.Judged.the-variants.{Fine, Refused}
 use Rattle.lists.proofs.Judging.{not-known, reserved, bound, power, order, fine, in-order, out-of-order, first-in-order}
@@ -15,7 +16,7 @@ use Rattle.lists.proofs.shape_check.judge.Tie as tie
 
 -- what each test passed says of the object bound
 known : (c : tie.After-reserved-bit-set) → decodeOf (c .before .before .before .before .before .args .w) ≡ Known (c .before .before .d .given .0 .0)
-known c = sym (c .before .before .before .before .decode .ensures) ∙ c .before .before .d .given .1
+known c = sym (decoded-is _ _ (c .before .before .before .before .decode .ensures)) ∙ c .before .before .d .given .1
 
 clear : (c : tie.Else1) → reservedSet (c .before .before .before .d .given .0 .0) (c .before .before .before .before .before .before .args .first) (c .before .before .before .before .before .before .args .w) ≡ false
 clear c = sym (c .before .reserved-bit-set .ensures) ∙ c .if1 .left
@@ -36,7 +37,7 @@ enum-told : tie.Need-enum-told
 enum-told c = search needs
 
 returns : tie.Need-returns
-returns c before r = sym (not-known _ _ before _ (sym (c .before .before .decode .ensures) ∙ c .enum-told .given .1))
+returns c before r = sym (not-known _ _ before _ (sym (decoded-is _ _ (c .before .before .decode .ensures)) ∙ c .enum-told .given .1))
 
 reserved-bit-set-requires : tie.Need-reserved-bit-set-requires
 reserved-bit-set-requires c κs = search needs

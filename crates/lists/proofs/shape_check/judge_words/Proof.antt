@@ -12,7 +12,7 @@ use Rattle.verdicts.proofs.First.{NoneApply, none-yet, none-more, all-missed, d
 use Rattle.objects.specs.Decode.{decodeOf}
 use Rattle.lists.specs.Shape.{wordRows}
 use Rattle.lists.specs.Scanning.{OnlyAvs}
-use Rattle.lists.specs.Reading.{zeroObject}
+use Rattle.objects.specs.Decode.{zeroObject}
 use Rattle.lists.proofs.Orders.{rank-in}
 use Rattle.lists.proofs.Judging.{Before, refused-word, fine-word, fine-object}
 use Rattle.lists.proofs.Scanning.{Alone, none-seen, one-more, refused-number}

@@ -4,30 +4,27 @@ use borrow.Author.Needs.{needs}
 use borrow.Author.Tests.{le-ltb, lt-ltb}
 use mathlib.Core.Path.{_≡_, refl, _∙_, ap}
 use mathlib.Core.List.{[], _∷_}
+use Prim.Native.Nat.{ℕ}
 use native.Mathlib.Omega.{arith}
 use lib.Dec.{lit<}
 use Rattle.objects.specs.Layout.{field}
-use Rattle.objects.specs.Encode.{wordOf}
+use Rattle.objects.specs.Encode.{encodedSays}
 use Rattle.objects.specs.declared.Encoded.the-variants.{Word}
 use Rattle.objects.proofs.Putting.{ored-joined}
 use Rattle.objects.proofs.encoding.fixed_word.Statement.{statement}
 use Rattle.objects.proofs.encoding.fixed_word.Tie as tie
 
 returns : tie.Need-returns
-unfolding wordOf
 returns c = simp (le-ltb _ _ (c .if1 .taken))
 
 returns-2 : tie.Need-returns-2
-unfolding wordOf
 returns-2 c = simp (lt-ltb _ _ (c .before .before .if1 .left), le-ltb _ _ (c .if2 .taken))
 
 returns-3 : tie.Need-returns-3
-unfolding wordOf
 returns-3 c =
     simp (lt-ltb _ _ (c .before .before .before .if1 .left), lt-ltb _ _ (c .before .if2 .left), le-ltb _ _ (c .if3 .taken))
 
 returns-4 : tie.Need-returns-4
-unfolding wordOf
 returns-4 c =
     simp (
       lt-ltb _ _ (c .before .before .before .before .if1 .left),
@@ -43,7 +40,6 @@ cast-t7 : tie.Need-cast-t7
 cast-t7 c = search needs
 
 returns-5 : tie.Need-returns-5
-unfolding wordOf
 returns-5 c =
     let p = c .before .before in
     let x = p .before .before .before .before .before .before .args in
@@ -52,7 +48,7 @@ returns-5 c =
     let hp = p .before .if3 .left in
     let hf = p .if4 .left in
     simp (lt-ltb _ _ ha, lt-ltb _ _ hv, lt-ltb _ _ hp, lt-ltb _ _ hf)
-    (ap Word
+    (ap (λ (w : ℕ). encodedSays (Word w))
     (ored-joined (x .current .0) 10 (field (x .volts .0) 19 10 ∷ field (x .peak) 21 20 ∷ field (x .flags) 29 23 ∷ []) ha refl
     (hv, (hp, (hf, tt)))
     ∙ omega arith))

@@ -4,6 +4,7 @@ use mathlib.Core.Path.{_≡_, sym, ap, _∙_}
 use Rattle.rules.specs.declared.Profile.{Profile}
 use Rattle.rules.specs.Building.{builtOf}
 use Rattle.rules.specs.Placing.{placedIn}
+use Rattle.rules.proofs.Saying.{placed-is}
 use Rattle.ports.specs.RuleLists.{ruleList}
 use Rattle.ports.proofs.Requesting.{refusedAt, first-place}
 use borrow.Author.Needs.{needs}
@@ -12,7 +13,7 @@ use Rattle.ports.proofs.deciding.no_object.Tie as tie
 
 -- the first word of the row's list
 first-is : (c : tie.After-word-at) → c .word-at .result ≡ placedIn (ruleList (c .before .before .args .row)) 1
-first-is c = c .word-at .ensures ∙ ap (λ (p : Profile). placedIn (builtOf p .list) 1) (c .before .rule-profile .ensures)
+first-is c = placed-is _ 1 _ (c .word-at .ensures) ∙ ap (λ (p : Profile). placedIn (builtOf p .list) 1) (c .before .rule-profile .ensures)
 
 rule-profile-requires : tie.Need-rule-profile-requires
 rule-profile-requires c κs = search needs

@@ -8,6 +8,7 @@ use Rattle.verdicts.specs.declared.Verdict.{Verdict}
 use Rattle.objects.specs.declared.Decoded.{Decoded}
 use Rattle.objects.specs.declared.Decoded.the-variants.{Known, NotAllowed}
 use Rattle.objects.specs.Decode.{decodeOf}
+use Rattle.objects.proofs.Saying.{decoded-is}
 use Rattle.lists.specs.Shape.{shapeOf}
 use Rattle.lists.specs.Reading.{objectOf}
 use Rattle.requests.specs.Taking.{positionOf}
@@ -97,7 +98,7 @@ returns-4 : tie.Need-returns-4
 returns-4 c =
     let p = c .before .before .before .before .before in
     let x = p .before .before .before .before .before .before .args in
-    let named = named-is p (c .before .before .before .decode .result) (c .before .before .before .decode .ensures) ∙ c .before .enum-told .given .1 in
+    let named = named-is p (c .before .before .before .decode .result) (decoded-is _ _ (c .before .before .before .decode .ensures)) ∙ c .before .enum-told .given .1 in
     let known = names-object (x .t1) (x .word) (shaped (p .before .before .before)) (from-1 (p .before)) (to-count p) in
     let z : NotAllowed ≡ Known (objectOf (namedBy (x .t1) (x .word))) = sym named ∙ known in
     cc
@@ -109,7 +110,7 @@ returns-5 : tie.Need-returns-5
 returns-5 c =
     let p = c .before .before .before .before .before .before in
     let x = p .before .before .before .before .before .before .args in
-    let named = named-is p (c .before .before .before .before .decode .result) (c .before .before .before .before .decode .ensures) ∙ c .before .before .d .given .1 in
+    let named = named-is p (c .before .before .before .before .decode .result) (decoded-is _ _ (c .before .before .before .before .decode .ensures)) ∙ c .before .before .d .given .1 in
     c .judge .ensures
     ∙ sym (judged (x .t1) (x .word) (shaped (p .before .before .before)) _ (position-good _ _ (from-1 (p .before)) (to-count p)) named)
 

@@ -4,6 +4,7 @@ use mathlib.Core.Path.{ap, ap₂, _∙_}
 use Prim.Native.Nat.{ℕ}
 use Rattle.objects.specs.declared.Object.the-variants as object
 use Rattle.objects.specs.Encode.{encodeOf}
+use Rattle.objects.proofs.Saying.{encoded-is}
 use Rattle.lists.specs.Writing.{wordIn}
 use Rattle.rules.specs.Building.{objectFor}
 use borrow.Author.Needs.{needs}
@@ -26,9 +27,10 @@ returns : tie.Need-returns
 unfolding objectFor
 returns c =
     c .word-in .ensures
-    ∙ ap wordIn (c .before .avs-word .ensures
-    ∙ ap₂ (λ (l h : ℕ). encodeOf (object.Avs 0 (record { 0 = l }) (record { 0 = h })))
-    (c .before .before .before .built-current .ensures) (c .before .before .second-current .ensures))
+    ∙ ap wordIn (encoded-is (object.Avs 0 (c .before .before .before .built-current .result) (c .before .before .second-current .result))
+    (c .before .avs-word .result) (c .before .avs-word .ensures))
+    ∙ ap₂ (λ (l h : ℕ). wordIn (encodeOf (object.Avs 0 (record { 0 = l }) (record { 0 = h }))))
+    (c .before .before .before .built-current .ensures) (c .before .before .second-current .ensures)
 
 pub avs-word-spec : {M : Type 1} → statement M
 avs-word-spec =

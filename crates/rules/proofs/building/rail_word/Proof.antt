@@ -4,6 +4,7 @@ use mathlib.Core.Path.{ap, ap₂, _∙_}
 use Prim.Native.Nat.{ℕ, _*_}
 use Rattle.objects.specs.declared.Object.the-variants as object
 use Rattle.objects.specs.Encode.{encodeOf}
+use Rattle.objects.proofs.Saying.{encoded-is}
 use Rattle.lists.specs.Writing.{wordIn}
 use Rattle.rules.specs.Building.{objectFor}
 use borrow.Author.Needs.{needs}
@@ -30,9 +31,10 @@ unfolding objectFor
 returns c =
     let x = c .before .before .before .before .args in
     c .word-in .ensures
-    ∙ ap wordIn (c .before .fixed-word .ensures
-    ∙ ap₂ (λ (f a : ℕ). encodeOf (object.Fixed f 0 (record { 0 = x .volts * 20 }) (record { 0 = a })))
-    (c .before .before .flags-at .ensures) (c .before .before .before .built-current .ensures))
+    ∙ ap wordIn (encoded-is (object.Fixed (c .before .before .flags-at .result) 0 (record { 0 = x .volts * 20 }) (c .before .before .before .built-current .result))
+    (c .before .fixed-word .result) (c .before .fixed-word .ensures))
+    ∙ ap₂ (λ (f a : ℕ). wordIn (encodeOf (object.Fixed f 0 (record { 0 = x .volts * 20 }) (record { 0 = a }))))
+    (c .before .before .flags-at .ensures) (c .before .before .before .built-current .ensures)
 
 pub rail-word-spec : {M : Type 1} → statement M
 rail-word-spec =

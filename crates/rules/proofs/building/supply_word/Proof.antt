@@ -4,6 +4,7 @@ use mathlib.Core.Path.{ap, _∙_}
 use Prim.Native.Nat.{ℕ}
 use Rattle.objects.specs.declared.Object.the-variants as object
 use Rattle.objects.specs.Encode.{encodeOf}
+use Rattle.objects.proofs.Saying.{encoded-is}
 use Rattle.lists.specs.Writing.{wordIn}
 use Rattle.rules.specs.Building.{objectFor}
 use borrow.Author.Needs.{needs}
@@ -24,8 +25,9 @@ unfolding objectFor
 returns c =
     let x = c .before .before .before .args in
     c .word-in .ensures
-    ∙ ap wordIn (c .before .pps-word .ensures
-    ∙ ap (λ (a : ℕ). encodeOf (object.Pps 1 (x .top) (record { 0 = 50 }) (record { 0 = a }))) (c .before .before .prog-current .ensures))
+    ∙ ap wordIn (encoded-is (object.Pps 1 (x .top) (record { 0 = 50 }) (c .before .before .prog-current .result))
+    (c .before .pps-word .result) (c .before .pps-word .ensures))
+    ∙ ap (λ (a : ℕ). wordIn (encodeOf (object.Pps 1 (x .top) (record { 0 = 50 }) (record { 0 = a })))) (c .before .before .prog-current .ensures)
 
 pub supply-word-spec : {M : Type 1} → statement M
 supply-word-spec =

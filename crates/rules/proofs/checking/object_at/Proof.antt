@@ -1,6 +1,7 @@
 -- `rules::checking::object_at` meets its contract: a place that counts has its word's object.
 -- Assumes nothing.
 use mathlib.Core.Path.{sym, _∙_}
+use Rattle.objects.proofs.Saying.{decoded-is}
 use Rattle.rules.proofs.Steps.{counted, past}
 use borrow.Author.Needs.{needs}
 use Rattle.rules.proofs.checking.object_at.Statement.{statement}
@@ -16,7 +17,7 @@ decode-requires : tie.Need-decode-requires
 decode-requires c κs = search needs
 
 returns : tie.Need-returns
-returns c = c .decode .ensures ∙ sym (counted _ _ (c .before .before .if1 .taken))
+returns c = decoded-is _ _ (c .decode .ensures) ∙ sym (counted _ _ (c .before .before .if1 .taken))
 
 returns-2 : tie.Need-returns-2
 returns-2 c = sym (past _ _ (c .if1 .left))

@@ -1,8 +1,8 @@
--- `steps::currents::in_ma10` meets its contract: each arm is a case of `inMa10`.
+-- `steps::currents::in_ma10` meets its contract: each arm says what `rescale` does.
 -- Assumes nothing.
 use borrow.Author.Needs.{needs}
 use mathlib.Core.Path.{_∙_, ap, sym}
-use Rattle.steps.specs.Measure.{inMa10}
+use Rattle.steps.specs.Measure.{scaledSays}
 use Rattle.steps.proofs.currents.in_ma10.Statement.{statement}
 use Rattle.steps.proofs.currents.in_ma10.Tie as tie
 
@@ -16,12 +16,10 @@ enum-told : tie.Need-enum-told
 enum-told c = search needs
 
 returns : tie.Need-returns
-unfolding inMa10
-returns c = ap inMa10 (sym (c .before .count .given .1) ∙ c .before .before .before .rescale .ensures)
+returns c = ap scaledSays (sym (c .before .count .given .1)) ∙ c .before .before .before .rescale .ensures
 
 returns-2 : tie.Need-returns-2
-unfolding inMa10
-returns-2 c = ap inMa10 (sym (c .enum-told .given .1) ∙ c .before .before .rescale .ensures)
+returns-2 c = ap scaledSays (sym (c .enum-told .given .1)) ∙ c .before .before .rescale .ensures
 
 pub in-ma10-spec : {M : Type 1} → statement M
 in-ma10-spec = tie.close (tie.spec rescale-requires enum-known-count enum-told returns returns-2)

@@ -1,8 +1,8 @@
--- `steps::voltages::in_mv50` meets its contract: each arm is a case of `inMv50`.
+-- `steps::voltages::in_mv50` meets its contract: each arm says what `rescale` does.
 -- Assumes nothing.
 use borrow.Author.Needs.{needs}
 use mathlib.Core.Path.{_∙_, ap, sym}
-use Rattle.steps.specs.Measure.{inMv50}
+use Rattle.steps.specs.Measure.{scaledSays}
 use Rattle.steps.proofs.voltages.in_mv50.Statement.{statement}
 use Rattle.steps.proofs.voltages.in_mv50.Tie as tie
 
@@ -16,12 +16,10 @@ enum-told : tie.Need-enum-told
 enum-told c = search needs
 
 returns : tie.Need-returns
-unfolding inMv50
-returns c = ap inMv50 (sym (c .before .count .given .1) ∙ c .before .before .before .rescale .ensures)
+returns c = ap scaledSays (sym (c .before .count .given .1)) ∙ c .before .before .before .rescale .ensures
 
 returns-2 : tie.Need-returns-2
-unfolding inMv50
-returns-2 c = ap inMv50 (sym (c .enum-told .given .1) ∙ c .before .before .rescale .ensures)
+returns-2 c = ap scaledSays (sym (c .enum-told .given .1)) ∙ c .before .before .rescale .ensures
 
 pub in-mv50-spec : {M : Type 1} → statement M
 in-mv50-spec = tie.close (tie.spec rescale-requires enum-known-count enum-told returns returns-2)
