@@ -10,7 +10,7 @@ use Rattle.flat.specs.declared.FlatObject.{FlatObject}
 use Rattle.flat.specs.declared.Raised.{Raised}
 use Rattle.flat.specs.declared.Raised.the-variants.{Known, Unknown}
 use Rattle.flat.specs.Flat.{flatOf, raisedBy, raisedOf, raisedNumber, ownBy, ownFields}
-use Rattle.lists.specs.Reading.{zeroObject}
+use Rattle.objects.specs.Decode.{zeroObject}
 
 pub raised-by : (x : FlatObject) (k : ℕ) → x .kind ≡ k → raisedOf x ≡ raisedBy k x
 unfolding raisedOf

@@ -1,7 +1,9 @@
 -- One struct for all five kinds (01, "Object words": "A decoded object is one of five kinds with the fields of its own kind").
 -- A field that a kind does not have is zero, and is not read.
 -- Assumes nothing.
+use mathlib.Core.Bool.{cond}
 use Prim.Native.Nat.{ℕ, zero, suc}
+use lib.Dec.{ltb}
 use Rattle.steps.specs.declared.Mv50.{Mv50}
 use Rattle.steps.specs.declared.Mv100.{Mv100}
 use Rattle.steps.specs.declared.Ma10.{Ma10}
@@ -9,6 +11,7 @@ use Rattle.steps.specs.declared.Ma50.{Ma50}
 use Rattle.steps.specs.declared.Mw250.{Mw250}
 use Rattle.objects.specs.declared.Object.{Object}
 use Rattle.objects.specs.declared.Object.the-variants.{Fixed, Battery, Variable, Pps, Avs}
+use Rattle.objects.specs.Decode.{zeroObject}
 use Rattle.flat.specs.declared.FlatObject.{FlatObject}
 use Rattle.flat.specs.declared.Raised.{Raised}
 use Rattle.flat.specs.declared.Raised.the-variants.{Known, Unknown}
@@ -72,10 +75,17 @@ raisedBy (suc (suc (suc (suc (suc k))))) x = Unknown
 unfoldable pub raisedOf : FlatObject → Raised
 raisedOf x = raisedBy (x .kind) x
 
--- 01's number for each answer: 0, or 12 for a kind that no list may have
+-- What each answer says: 01's number, and the object. 12: "kind not allowed". "A refusal returns its number .. and zero for all else."
+abbrev pub raisedSays : Raised → ℕ × Object
+raisedSays (Known o) = (0, o)
+raisedSays Unknown = (12, zeroObject)
+
 abbrev pub raisedNumber : Raised → ℕ
-raisedNumber (Known o) = 0
-raisedNumber Unknown = 12
+raisedNumber r = raisedSays r .0
+
+-- what is to be said of a flat object: a number above the five is no kind
+abbrev pub raiseSays : FlatObject → ℕ × Object
+raiseSays x = cond (ltb 4 (x .kind)) (12, zeroObject) (0, raisedSays (raisedOf x) .1)
 
 -- ---- a flat object with its own fields alone: the others are zero
 

@@ -1,62 +1,62 @@
 // Writing: from flat objects to words.
 ghost use mathlib.Core.Path.{_≡_};
 ghost use Prim.Native.Nat.{_≤_};
-ghost use Rattle.lists.specs.Reading.{readRefused};
-ghost use Rattle.flat.specs.Raising.{raisedListOf};
+ghost use Rattle.objects.specs.Encode.{encodedSays};
+ghost use Rattle.flat.specs.Flat.{raisedOf};
+ghost use Rattle.flat.specs.Writing.{encodedRaised, flatMadeOf};
 ghost use Rattle.flat.specs.Promises.{FlatWrites};
+use crate::FlatObject;
 use crate::FlatObjects;
 use crate::Raised;
 use crate::flattening::raise;
-use lists::EMPTY_PLACE;
 use lists::Listing;
-use lists::Objects;
-use lists::Place;
-use lists::Reading;
+use lists::Words;
 use lists::refuse;
+use objects::Encoded;
 use verdicts::Verdict;
 
-// A place of no kind, by its number: the list has no objects.
-fn no_objects(place: u8) -> Reading
-    ensures { λ r. ⌜ r ≡ readRefused 12 place ⌝ }
+// A word of the kind 1111b, which no list may have. It stands for a flat object of no kind, so that the shape of the words refuses that
+// one in its turn.
+const NO_KIND: u32 = 0xF000_0000;
+
+fn encode_flat(flat: FlatObject) -> Encoded
+    ensures { λ r. ⌜ encodedSays r ≡ encodedSays (encodedRaised (raisedOf flat)) ⌝ }
 {
-    let places = [EMPTY_PLACE; 7];
-    Reading {
-        verdict: Verdict {
-            number: verdicts::KIND_NOT_ALLOWED,
-            place,
-        },
-        list: Objects { places, count: 0 },
-    }
+    let raised = raise(flat);
+    let Raised::Known(object) = raised else {
+        return Encoded::Word(NO_KIND);
+    };
+    objects::encode(object)
 }
 
-// The objects of the places that count, until one is of no kind.
-fn raise_places(list: FlatObjects) -> Reading
+// The word of each object, until one has a field too wide.
+fn encode_places(list: FlatObjects) -> Listing
     requires { ⌜ list .count ≤ 7 ⌝ }
-    ensures { λ r. ⌜ r ≡ raisedListOf list ⌝ }
+    ensures { λ r. ⌜ r ≡ flatMadeOf list ⌝ }
 {
     let count = list.count;
-    let mut places = [EMPTY_PLACE; 7];
+    let mut words = [0u32; 7];
     let mut i: u8 = 0;
     while i < count {
         let at = i as usize;
         let flat = list.places[at];
-        let raised = raise(flat);
-        let Raised::Known(object) = raised else {
-            return no_objects(i + 1);
+        let e = encode_flat(flat);
+        let Encoded::Word(w) = e else {
+            return refuse(verdicts::FIELD_TOO_WIDE, i + 1);
         };
-        places[at] = Place { object };
+        words[at] = w;
         i += 1;
     }
-    Reading {
+    Listing {
         verdict: Verdict {
             number: verdicts::SUCCESS,
             place: 0,
         },
-        list: Objects { places, count },
+        list: Words { words, count },
     }
 }
 
-// The words of objects that are each of a kind, as `lists::write` makes them.
+// The words of objects whose fields fit, if the words make a list, as `lists::write` makes them.
 pub fn flat_write(list: FlatObjects) -> Listing
     ensures { λ r. ⌜ FlatWrites list r ⌝ }
 {
@@ -67,11 +67,15 @@ pub fn flat_write(list: FlatObjects) -> Listing
     if 7 < count {
         return refuse(verdicts::COUNT, 0);
     }
-    let raised = raise_places(list);
-    let verdict = raised.verdict;
+    let made = encode_places(list);
+    let wide = made.verdict;
+    if wide.number != verdicts::SUCCESS {
+        return made;
+    }
+    let words = made.list;
+    let verdict = lists::shape(words);
     if verdict.number != verdicts::SUCCESS {
         return refuse(verdict.number, verdict.place);
     }
-    let objects = raised.list;
-    lists::write(objects)
+    made
 }

@@ -75,10 +75,10 @@ module _ (l : Words) (typed : Words32 l) (x : NoneApply (shapeRefusals l)) where
 
   pub read-write : writeOf (objectsOf l) ≡ record { verdict = success; list = keptWords l }
   read-write =
-      write-clear (objectsOf l) (
+      write-clear (encodedAt (objectsOf l .places)) (l .count) (
         x .0,
-        none-append (eachPlace (wideRows (objectsOf l .places)) (l .count)) (shapeRefusals (wordsOf (objectsOf l)))
-            (none-all (wideRows (objectsOf l .places)) (l .count) (λ k h. (ap (λ (e : Encoded). eqb (encodedNumber e) 7) (place-back k h), tt)))
+        none-append (eachPlace (wideRows (encodedAt (objectsOf l .places))) (l .count)) (shapeRefusals (wordsOf (objectsOf l)))
+            (none-all (wideRows (encodedAt (objectsOf l .places))) (l .count) (λ k h. (ap (λ (e : Encoded). eqb (encodedNumber e) 7) (place-back k h), tt)))
             (subst (λ (m : Words). NoneApply (shapeRefusals m)) (sym words-back) kept-clear),
       )
       ∙ ap written words-back
@@ -96,13 +96,13 @@ module _ (o : Objects) (x : NoneApply (writeRefusals o)) where
   object-back : (k : ℕ) → k < o .count → decodeOf (getD (wordsOf o .words) k 0) ≡ Known (getD (o .places) k emptyPlace .object)
   object-back k h =
       let e = encodedAt (o .places) k in
-      let fits = none-at (wideRows (o .places)) (o .count) k (none-left (eachPlace (wideRows (o .places)) (o .count)) (shapeRefusals (wordsOf o)) (x .1)) h in
+      let fits = none-at (wideRows (encodedAt (o .places))) (o .count) k (none-left (eachPlace (wideRows (encodedAt (o .places))) (o .count)) (shapeRefusals (wordsOf o)) (x .1)) h in
       ap decodeOf (filled-at (λ (j : ℕ). wordIn (encodedAt (o .places) j)) 0 (o .count) k (count-high (o .count) (x .0)) h)
       ∙ encode-decode (getD (o .places) k emptyPlace .object) (wordIn e) (has-word e (fits .0))
 
   pub write-read : readOf (wordsOf o) ≡ record { verdict = success; list = keptObjects o }
   write-read =
-      read-clear (wordsOf o) (none-right (eachPlace (wideRows (o .places)) (o .count)) (shapeRefusals (wordsOf o)) (x .1))
+      read-clear (wordsOf o) (none-right (eachPlace (wideRows (encodedAt (o .places))) (o .count)) (shapeRefusals (wordsOf o)) (x .1))
       ∙ ap reading
       (same-seven (placeOf (wordsOf o .words)) (λ (k : ℕ). getD (o .places) k emptyPlace) emptyPlace (o .count) (λ k h. ap placed (object-back k h)))
     where

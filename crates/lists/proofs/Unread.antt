@@ -17,6 +17,7 @@ use Rattle.objects.specs.declared.Decoded.{Decoded}
 use Rattle.objects.specs.declared.Decoded.the-variants.{Known, NotAllowed}
 use Rattle.objects.specs.Asking.{ofObject}
 use Rattle.objects.specs.Decode.{decodeOf}
+use Rattle.objects.specs.declared.Encoded.{Encoded}
 use Rattle.objects.specs.Encode.{encodeOf, encodedNumber}
 use Rattle.lists.specs.declared.Words.{Words}
 use Rattle.lists.specs.declared.Place.{Place}
@@ -26,11 +27,10 @@ use Rattle.lists.specs.declared.Listing.{Listing}
 use Rattle.lists.specs.Shape.{badCount, isFixed5V, wordRefusals, wordRows, fixedWith, hasFixed, avsMatches, avsDiffers, avsRows, shapeRefusals, shapeOf}
 use Rattle.lists.specs.Seven.{sevenTo}
 use Rattle.lists.specs.Reading.{emptyPlace, objectOf, placeOf, objectsOf, readRefused, readOf}
-use Rattle.lists.specs.Writing.{encodedAt, wideRows, wordIn, wordsOf, writeRefusals, writeRefused, writeOf}
+use Rattle.lists.specs.Writing.{wideRows, wordIn, wordsFrom, writingRefusals, writeRefused, writtenFrom, encodedAt, writeOf}
 use Rattle.lists.proofs.Shapes.{count-low}
 use Rattle.lists.proofs.Sevens.{same-seven}
 use Rattle.lists.proofs.Readings.{readAs}
-use Rattle.lists.proofs.Writings.{writtenAs}
 
 -- the same count, and the same words up to it
 pub record AgreeWords (l m : Words) : Type 0 where
@@ -109,27 +109,31 @@ module _ (l m : Words) (a : AgreeWords l m) where
       asRead : List Place → ℕ → Reading
       asRead ps n = record { verdict = success; list = record { places = ps; count = n } }
 
-abbrev holding : List Place → ℕ → Objects
-holding ps n = record { places = ps; count = n }
+-- ---- writing, by what each object is written as
 
-module _ (ps qs : List Place) (n : ℕ) (e : (k : ℕ) → k < n → getD ps k emptyPlace ≡ getD qs k emptyPlace) where
-  same-wide-rows : eachPlace (wideRows ps) n ≡ eachPlace (wideRows qs) n
-  same-wide-rows = same-places (wideRows ps) (wideRows qs) n (λ k h. ap (wideRow k) (e k h)) where
-    wideRow : ℕ → Place → List Refusal
-    wideRow k p = refusal (eqb (encodedNumber (encodeOf (p .object))) 7) 7 (k + 1) ∷ []
+module _ (made other : ℕ → Encoded) (n : ℕ) (e : (k : ℕ) → k < n → made k ≡ other k) where
+  same-wide-rows : eachPlace (wideRows made) n ≡ eachPlace (wideRows other) n
+  same-wide-rows = same-places (wideRows made) (wideRows other) n (λ k h. ap (wideRow k) (e k h)) where
+    wideRow : ℕ → Encoded → List Refusal
+    wideRow k x = refusal (eqb (encodedNumber x) 7) 7 (k + 1) ∷ []
 
-  same-made : wordsOf (holding ps n) ≡ wordsOf (holding qs n)
+  pub same-made : wordsFrom made n ≡ wordsFrom other n
   same-made =
       ap (λ (ws : List ℕ). counting ws n)
-      (same-seven (λ (k : ℕ). wordIn (encodedAt ps k)) (λ (k : ℕ). wordIn (encodedAt qs k)) 0 n (λ k h. ap (λ (p : Place). wordIn (encodeOf (p .object))) (e k h)))
+      (same-seven (λ (k : ℕ). wordIn (made k)) (λ (k : ℕ). wordIn (other k)) 0 n (λ k h. ap wordIn (e k h)))
+
+  pub same-written : writtenFrom made n ≡ writtenFrom other n
+  unfolding writtenFrom
+  same-written = ap₂ (λ (rs : List Refusal) (l : Words). answer rs l) same-wide-rows same-made where
+    answer : List Refusal → Words → Listing
+    answer rs l = firstOf writeRefused (refusal (badCount n) 10 0 ∷ (rs ++ shapeRefusals l)) (record { verdict = success; list = l })
+
+  -- the very tables are the same
+  pub same-refusals : writingRefusals made n ≡ writingRefusals other n
+  same-refusals = ap₂ (λ (rs : List Refusal) (l : Words). refusal (badCount n) 10 0 ∷ (rs ++ shapeRefusals l)) same-wide-rows same-made
 
 module _ (o q : Objects) (a : AgreeObjects o q) where
   pub write-unread : writeOf o ≡ writeOf q
-  unfolding writeOf
   write-unread =
-      ap₂ (λ (rs : List Refusal) (l : Words). answer rs l) (same-wide-rows (o .places) (q .places) (o .count) (a .places))
-      (same-made (o .places) (q .places) (o .count) (a .places))
-      ∙ ap (λ (n : ℕ). writeOf (holding (q .places) n)) (a .count)
-    where
-      answer : List Refusal → Words → Listing
-      answer rs l = firstOf writeRefused (refusal (badCount (o .count)) 10 0 ∷ (rs ++ shapeRefusals l)) (record { verdict = success; list = l })
+      same-written (encodedAt (o .places)) (encodedAt (q .places)) (o .count) (λ k h. ap (λ (p : Place). encodeOf (p .object)) (a .places k h))
+      ∙ ap (writtenFrom (encodedAt (q .places))) (a .count)

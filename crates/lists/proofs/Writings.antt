@@ -1,4 +1,4 @@
--- The cases of writing.
+-- The cases of writing, by what each object is written as.
 -- Assumes nothing.
 use mathlib.Core.Path.{_≡_, refl, sym, ap, _∙_}
 use mathlib.Core.Bool.{true, false}
@@ -7,83 +7,83 @@ use Prim.Native.Nat.{ℕ}
 use Rattle.verdicts.specs.declared.Verdict.{Verdict}
 use Rattle.verdicts.specs.Refusals.{Refusal, refusal, eachPlace, firstOf, success, verdictOf}
 use Rattle.verdicts.proofs.First.{NoneApply, hit, miss, onward, onto, all-missed, refused-so, none-applied, passes, none-append, numbered, numbered-append, numbered-places}
-use Rattle.lists.specs.declared.Objects.{Objects}
+use Rattle.objects.specs.declared.Encoded.{Encoded}
 use Rattle.lists.specs.declared.Listing.{Listing}
 use Rattle.lists.specs.Shape.{badCount, shapeRefusals, shapeOf}
-use Rattle.lists.specs.Writing.{wideRows, noWords, wordsOf, writeRefusals, writeRefused, writeOf}
-use Rattle.lists.specs.Making.{madeOf}
+use Rattle.lists.specs.Writing.{wideRows, noWords, wordsFrom, writingRefusals, writeRefused, writtenFrom}
+use Rattle.lists.specs.Making.{madeFrom}
 use Rattle.lists.proofs.Shapes.{shape-numbered, none-of}
 
-abbrev pub writtenAs : Objects → Listing
-writtenAs o = record { verdict = success; list = wordsOf o }
+abbrev pub writtenAs : (ℕ → Encoded) → ℕ → Listing
+writtenAs made n = record { verdict = success; list = wordsFrom made n }
 
-abbrev widePart : Objects → List Refusal
-widePart o = eachPlace (wideRows (o .places)) (o .count)
+abbrev widePart : (ℕ → Encoded) → ℕ → List Refusal
+widePart made n = eachPlace (wideRows made) n
 
-module _ (o : Objects) where
-  pub write-numbered : numbered (writeRefusals o) ≡ true
+module _ (made : ℕ → Encoded) (n : ℕ) where
+  pub write-numbered : numbered (writingRefusals made n) ≡ true
   write-numbered =
-      numbered-append (widePart o) (shapeRefusals (wordsOf o)) (numbered-places (wideRows (o .places)) (λ k. refl) (o .count))
-      (shape-numbered (wordsOf o))
+      numbered-append (widePart made n) (shapeRefusals (wordsFrom made n)) (numbered-places (wideRows made) (λ k. refl) n)
+      (shape-numbered (wordsFrom made n))
 
-  wide-numbered : numbered (widePart o) ≡ true
-  wide-numbered = numbered-places (wideRows (o .places)) (λ k. refl) (o .count)
+  wide-numbered : numbered (widePart made n) ≡ true
+  wide-numbered = numbered-places (wideRows made) (λ k. refl) n
 
-  pub write-miscounted : badCount (o .count) ≡ true → writeOf o ≡ writeRefused 10 0
-  unfolding writeOf
-  write-miscounted e = hit writeRefused (writtenAs o) 10 0 _ e
+  pub write-miscounted : badCount n ≡ true → writtenFrom made n ≡ writeRefused 10 0
+  unfolding writtenFrom
+  write-miscounted e = hit writeRefused (writtenAs made n) 10 0 _ e
 
-  write-counted : badCount (o .count) ≡ false
-      → writeOf o ≡ firstOf writeRefused (widePart o) (firstOf writeRefused (shapeRefusals (wordsOf o)) (writtenAs o))
-  unfolding writeOf
-  write-counted e = miss writeRefused (writtenAs o) 10 0 _ e ∙ onward writeRefused (writtenAs o) (widePart o) (shapeRefusals (wordsOf o))
+  write-counted : badCount n ≡ false
+      → writtenFrom made n ≡ firstOf writeRefused (widePart made n) (firstOf writeRefused (shapeRefusals (wordsFrom made n)) (writtenAs made n))
+  unfolding writtenFrom
+  write-counted e = miss writeRefused (writtenAs made n) 10 0 _ e ∙ onward writeRefused (writtenAs made n) (widePart made n) (shapeRefusals (wordsFrom made n))
 
   -- ---- the words made
 
-  made-verdict : madeOf o .verdict ≡ verdictOf (widePart o)
-  unfolding madeOf
-  made-verdict = onto (λ (r : Listing). r .verdict) writeRefused (widePart o) (writtenAs o)
+  made-verdict : madeFrom made n .verdict ≡ verdictOf (widePart made n)
+  unfolding madeFrom
+  made-verdict = onto (λ (r : Listing). r .verdict) writeRefused (widePart made n) (writtenAs made n)
 
-  pub wide : badCount (o .count) ≡ false → (madeOf o .verdict .number ≡ 0 → ⊥) → madeOf o ≡ writeOf o
-  unfolding madeOf
+  pub wide : badCount n ≡ false → (madeFrom made n .verdict .number ≡ 0 → ⊥) → madeFrom made n ≡ writtenFrom made n
+  unfolding madeFrom
   wide e f =
-      let g : verdictOf (widePart o) .number ≡ 0 → ⊥ = λ z. f (ap (λ (v : Verdict). v .number) made-verdict ∙ z) in
-      refused-so writeRefused (widePart o) g _ ∙ sym (write-counted e ∙ refused-so writeRefused (widePart o) g _)
+      let g : verdictOf (widePart made n) .number ≡ 0 → ⊥ = λ z. f (ap (λ (v : Verdict). v .number) made-verdict ∙ z) in
+      refused-so writeRefused (widePart made n) g _ ∙ sym (write-counted e ∙ refused-so writeRefused (widePart made n) g _)
 
-  none-wide : madeOf o .verdict .number ≡ 0 → NoneApply (widePart o)
-  none-wide e = none-applied (widePart o) wide-numbered (sym (ap (λ (v : Verdict). v .number) made-verdict) ∙ e)
+  none-wide : madeFrom made n .verdict .number ≡ 0 → NoneApply (widePart made n)
+  none-wide e = none-applied (widePart made n) wide-numbered (sym (ap (λ (v : Verdict). v .number) made-verdict) ∙ e)
 
-  pub made-is : madeOf o .verdict .number ≡ 0 → madeOf o ≡ writtenAs o
-  unfolding madeOf
-  made-is e = all-missed writeRefused (writtenAs o) (widePart o) (none-wide e)
+  pub made-is : madeFrom made n .verdict .number ≡ 0 → madeFrom made n ≡ writtenAs made n
+  unfolding madeFrom
+  made-is e = all-missed writeRefused (writtenAs made n) (widePart made n) (none-wide e)
 
   -- ---- their shape
 
-  pub misshapen : badCount (o .count) ≡ false → madeOf o .verdict .number ≡ 0 → (shapeOf (wordsOf o) .number ≡ 0 → ⊥)
-      → writeOf o ≡ writeRefused (shapeOf (wordsOf o) .number) (shapeOf (wordsOf o) .place)
+  pub misshapen : badCount n ≡ false → madeFrom made n .verdict .number ≡ 0 → (shapeOf (wordsFrom made n) .number ≡ 0 → ⊥)
+      → writtenFrom made n ≡ writeRefused (shapeOf (wordsFrom made n) .number) (shapeOf (wordsFrom made n) .place)
   unfolding shapeOf
   misshapen e m f =
-      write-counted e ∙ all-missed writeRefused _ (widePart o) (none-wide m) ∙ refused-so writeRefused (shapeRefusals (wordsOf o)) f (writtenAs o)
+      write-counted e ∙ all-missed writeRefused _ (widePart made n) (none-wide m) ∙ refused-so writeRefused (shapeRefusals (wordsFrom made n)) f (writtenAs made n)
 
-  pub write-clear : NoneApply (writeRefusals o) → writeOf o ≡ writtenAs o
-  unfolding writeOf
-  write-clear x = all-missed writeRefused (writtenAs o) (writeRefusals o) x
+  pub write-clear : NoneApply (writingRefusals made n) → writtenFrom made n ≡ writtenAs made n
+  unfolding writtenFrom
+  write-clear x = all-missed writeRefused (writtenAs made n) (writingRefusals made n) x
 
-  pub written : badCount (o .count) ≡ false → madeOf o .verdict .number ≡ 0 → shapeOf (wordsOf o) .number ≡ 0 → writeOf o ≡ writtenAs o
-  written e m f = write-clear (e, none-append (widePart o) (shapeRefusals (wordsOf o)) (none-wide m) (none-of (wordsOf o) f))
+  pub written : badCount n ≡ false → madeFrom made n .verdict .number ≡ 0 → shapeOf (wordsFrom made n) .number ≡ 0 → writtenFrom made n ≡ writtenAs made n
+  written e m f = write-clear (e, none-append (widePart made n) (shapeRefusals (wordsFrom made n)) (none-wide m) (none-of (wordsFrom made n) f))
 
   -- ---- the verdict of writing
 
-  pub write-verdict : writeOf o .verdict ≡ verdictOf (writeRefusals o)
-  unfolding writeOf
-  write-verdict = onto (λ (r : Listing). r .verdict) writeRefused (writeRefusals o) (writtenAs o)
+  pub write-verdict : writtenFrom made n .verdict ≡ verdictOf (writingRefusals made n)
+  unfolding writtenFrom
+  write-verdict = onto (λ (r : Listing). r .verdict) writeRefused (writingRefusals made n) (writtenAs made n)
 
-  pub write-passes : writeOf o .verdict .number ≡ 0 → NoneApply (writeRefusals o)
-  write-passes e = none-applied (writeRefusals o) write-numbered (sym (ap (λ (v : Verdict). v .number) write-verdict) ∙ e)
+  pub write-passes : writtenFrom made n .verdict .number ≡ 0 → NoneApply (writingRefusals made n)
+  write-passes e = none-applied (writingRefusals made n) write-numbered (sym (ap (λ (v : Verdict). v .number) write-verdict) ∙ e)
 
   -- "A refusal returns its number, the place, and zero for all else, an empty list included"
-  pub write-empty : (writeOf o .verdict ≡ success → ⊥) → writeOf o .list ≡ noWords
-  unfolding writeOf
+  pub write-empty : (writtenFrom made n .verdict ≡ success → ⊥) → writtenFrom made n .list ≡ noWords
+  unfolding writtenFrom
   write-empty f =
       ap (λ (r : Listing). r .list)
-      (refused-so writeRefused (writeRefusals o) (λ z. f (write-verdict ∙ passes (writeRefusals o) write-numbered z)) (writtenAs o))
+      (refused-so writeRefused (writingRefusals made n) (λ z. f (write-verdict ∙ passes (writingRefusals made n) write-numbered z)) (writtenAs made n))

@@ -1,9 +1,14 @@
--- The words made of objects, before their shape is looked at: a part of `writeOf`.
+-- The words made of objects, before their shape is looked at: a part of `writtenFrom`.
 -- Assumes nothing.
+use Prim.Native.Nat.{ℕ}
 use Rattle.verdicts.specs.Refusals.{eachPlace, firstOf, success}
+use Rattle.objects.specs.declared.Encoded.{Encoded}
 use Rattle.lists.specs.declared.Objects.{Objects}
 use Rattle.lists.specs.declared.Listing.{Listing}
-use Rattle.lists.specs.Writing.{wideRows, wordsOf, writeRefused}
+use Rattle.lists.specs.Writing.{wideRows, wordsFrom, writeRefused, encodedAt}
 
-unfoldable pub madeOf : Objects → Listing
-madeOf o = firstOf writeRefused (eachPlace (wideRows (o .places)) (o .count)) (record { verdict = success; list = wordsOf o })
+unfoldable pub madeFrom : (ℕ → Encoded) → ℕ → Listing
+madeFrom made n = firstOf writeRefused (eachPlace (wideRows made) n) (record { verdict = success; list = wordsFrom made n })
+
+abbrev pub madeOf : Objects → Listing
+madeOf o = madeFrom (encodedAt (o .places)) (o .count)

@@ -11,10 +11,12 @@ use Rattle.verdicts.specs.Refusals.{eachPlace, firstOf, verdict, success}
 use Rattle.verdicts.proofs.First.{NoneApply, hit, none-yet, none-more, all-missed, decided}
 use Rattle.objects.specs.declared.Encoded.{Encoded}
 use Rattle.objects.specs.Encode.{encodedNumber}
+use Rattle.objects.proofs.Saying.{encoded-is}
 use Rattle.lists.specs.Seven.{sevenTo}
 use Rattle.lists.specs.declared.Listing.{Listing}
+use Rattle.lists.specs.Reading.{emptyPlace}
 use Rattle.lists.specs.Writing.{encodedAt, wideRows, wordIn, wordsOf, writeRefused}
-use Rattle.lists.specs.Making.{madeOf}
+use Rattle.lists.specs.Making.{madeFrom}
 use Rattle.lists.proofs.Sevens.{none-filled, one-filled}
 use Rattle.lists.proofs.write_list.encode_places.Statement.{statement}
 use Rattle.lists.proofs.write_list.encode_places.Tie as tie
@@ -25,7 +27,7 @@ made ws n = record { verdict = success; list = record { words = ws; count = n } 
 abbrev Inv-loop : tie.InvT-loop
 Inv-loop list count words₀ i₀ words i =
     (i ≤ count)
-    × (NoneApply (eachPlace (wideRows (list .places)) i))
+    × (NoneApply (eachPlace (wideRows (encodedAt (list .places))) i))
     × (words ≡ sevenTo (λ (k : ℕ). wordIn (encodedAt (list .places) k)) 0 i)
 
 abbrev μ-loop : tie.MeasureT-loop
@@ -59,13 +61,13 @@ refuse-requires : tie.Need-refuse-requires Inv-loop μ-loop
 refuse-requires c κs = search needs
 
 returns : tie.Need-returns Inv-loop μ-loop
-unfolding madeOf
+unfolding madeFrom
 returns c =
     let l = c .before .before .before .before .before .before .before .args .t1 in
     let at = c .before .before .before .before .before .before .loop in
-    let e = ap (λ (x : Encoded). eqb (encodedNumber x) 7) (sym (c .before .before .before .encode .ensures) ∙ c .before .enum-told .given .1) in
+    let e = ap (λ (x : Encoded). eqb (encodedNumber x) 7) (sym (encoded-is (getD (l .places) (at .i) emptyPlace .object) _ (c .before .before .before .encode .ensures)) ∙ c .before .enum-told .given .1) in
     c .refuse .ensures
-    ∙ sym (decided (wideRows (l .places)) writeRefused (at .i) (l .count) _ (c .before .before .before .before .before .loop-test .taken) (at .inv .1)
+    ∙ sym (decided (wideRows (encodedAt (l .places))) writeRefused (at .i) (l .count) _ (c .before .before .before .before .before .loop-test .taken) (at .inv .1)
     (λ (x : Listing). hit writeRefused x 7 (at .i + 1) [] e) _)
 
 mul-words : tie.Need-mul-words Inv-loop μ-loop
@@ -84,21 +86,21 @@ loop-again : tie.Need-loop-again Inv-loop μ-loop
 loop-again c =
     let l = c .before .before .before .before .before .before .before .args .t1 in
     let at = c .before .before .before .before .before .before .loop in
-    let d = sym (c .before .before .before .encode .ensures) ∙ c .before .e .given .1 in (
+    let d = sym (encoded-is (getD (l .places) (at .i) emptyPlace .object) _ (c .before .before .before .encode .ensures)) ∙ c .before .e .given .1 in (
       omega arith,
-      none-more (wideRows (l .places)) (at .i) (at .inv .1) (ap (λ (x : Encoded). eqb (encodedNumber x) 7) d, tt),
+      none-more (wideRows (encodedAt (l .places))) (at .i) (at .inv .1) (ap (λ (x : Encoded). eqb (encodedNumber x) 7) d, tt),
       ap₂ (λ (ws : List ℕ) (w : ℕ). set ws (at .i) w) (at .inv .2) (sym (ap wordIn d))
           ∙ one-filled (λ (k : ℕ). wordIn (encodedAt (l .places) k)) 0 (at .i) (omega arith),
     )
 
 returns-2 : tie.Need-returns-2 Inv-loop μ-loop
-unfolding madeOf
+unfolding madeFrom
 returns-2 c =
     let l = c .before .before .args .t1 in
     let at = c .before .loop in
     let e : at .i ≡ l .count = omega arith in
     ap (λ (ws : List ℕ). made ws (l .count)) (at .inv .2 ∙ ap (sevenTo (λ (k : ℕ). wordIn (encodedAt (l .places) k)) 0) e)
-    ∙ sym (all-missed writeRefused _ _ (subst (λ (n : ℕ). NoneApply (eachPlace (wideRows (l .places)) n)) e (at .inv .1)))
+    ∙ sym (all-missed writeRefused _ _ (subst (λ (n : ℕ). NoneApply (eachPlace (wideRows (encodedAt (l .places))) n)) e (at .inv .1)))
 
 pub encode-places-spec : {M : Type 1} → statement M
 encode-places-spec =

@@ -29,20 +29,20 @@ fitting c = sym (ap number (c .before .before .before .encode-places .ensures)) 
 shaped : (c : tie.After-shape) → c .shape .result ≡ shapeOf (wordsOf (c .before .before .before .before .before .before .before .before .args .list))
 shaped c =
     c .shape .ensures
-    ∙ ap (λ (w : Listing). shapeOf (w .list)) (c .before .before .before .before .before .encode-places .ensures ∙ made-is _ (fitting
+    ∙ ap (λ (w : Listing). shapeOf (w .list)) (c .before .before .before .before .before .encode-places .ensures ∙ made-is _ _ (fitting
     (c .before .before)))
 
 refuse-requires : tie.Need-refuse-requires
 refuse-requires c κs = search needs
 
 returns : tie.Need-returns
-returns c = c .refuse .ensures ∙ sym (write-miscounted _ (too-few _ (c .before .if1 .taken)))
+returns c = c .refuse .ensures ∙ sym (write-miscounted _ _ (too-few _ (c .before .if1 .taken)))
 
 refuse-requires-2 : tie.Need-refuse-requires-2
 refuse-requires-2 c κs = search needs
 
 returns-2 : tie.Need-returns-2
-returns-2 c = c .refuse2 .ensures ∙ sym (write-miscounted _ (too-many _ (c .before .before .if1 .left) (c .before .if2 .taken)))
+returns-2 c = c .refuse2 .ensures ∙ sym (write-miscounted _ _ (too-many _ (c .before .before .if1 .left) (c .before .if2 .taken)))
 
 encode-places-requires : tie.Need-encode-places-requires
 encode-places-requires c κs = search needs
@@ -50,7 +50,7 @@ encode-places-requires c κs = search needs
 returns-3 : tie.Need-returns-3
 returns-3 c =
     let e = c .before .before .before .encode-places .ensures in
-    e ∙ wide _ (counted _ (c .before .before .before .before .before .if1 .left) (c .before .before .before .before .if2 .left))
+    e ∙ wide _ _ (counted _ (c .before .before .before .before .before .if1 .left) (c .before .before .before .before .if2 .left))
     (λ z. c .if3 .taken (ap number e ∙ z))
 
 shape-requires : tie.Need-shape-requires
@@ -65,15 +65,15 @@ returns-4 c =
     c .refuse3 .ensures
     ∙ ap₂ writeRefused (ap (λ (v : Verdict). v .number) (shaped (c .before .before .before)))
     (ap (λ (v : Verdict). v .place) (shaped (c .before .before .before)))
-    ∙ sym (misshapen _ (well-counted p) (fitting p) (λ z. c .before .if4 .taken (ap (λ (v : Verdict). v .number) (shaped
+    ∙ sym (misshapen _ _ (well-counted p) (fitting p) (λ z. c .before .if4 .taken (ap (λ (v : Verdict). v .number) (shaped
     (c .before .before .before)) ∙ z)))
 
 returns-5 : tie.Need-returns-5
 returns-5 c =
     let p = c .before .before .before .before in
     p .before .before .before .encode-places .ensures
-    ∙ made-is _ (fitting p)
-    ∙ sym (written _ (well-counted p) (fitting p) (sym (ap (λ (v : Verdict). v .number) (shaped (c .before .before))) ∙ c .if4 .left))
+    ∙ made-is _ _ (fitting p)
+    ∙ sym (written _ _ (well-counted p) (fitting p) (sym (ap (λ (v : Verdict). v .number) (shaped (c .before .before))) ∙ c .if4 .left))
 
 pub write-spec : {M : Type 1} → statement M
 write-spec =
