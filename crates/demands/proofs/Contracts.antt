@@ -36,6 +36,7 @@ use Rattle.steps.proofs.Ma50.to_ma10.Reads as ma50-to-ma10
 use Rattle.objects.specs.declared.Object.{Object}
 use Rattle.objects.specs.declared.Decoded.{Decoded}
 use Rattle.objects.specs.declared.Encoded.{Encoded}
+use Rattle.objects.proofs.kind_bits.Reads as kind-bits
 use Rattle.objects.proofs.decode.Reads as decode
 use Rattle.objects.proofs.reserved_bit_set.Reads as reserved-bit-set
 use Rattle.objects.proofs.encode.Reads as encode
@@ -132,6 +133,9 @@ abbrev pub Ma50ToMa10Answers : Ma50 → InMa10 → Type 0
 Ma50ToMa10Answers v r = ma50-to-ma10.Post tt (v, tt) r (v, tt)
 
 -- ---- objects
+
+abbrev pub KindBitsAnswers : ℕ → ℕ → Type 0
+KindBitsAnswers w r = kind-bits.Post tt (w, tt) r (w, tt)
 
 abbrev pub DecodeAnswers : ℕ → Decoded → Type 0
 DecodeAnswers w r = decode.Post tt (w, tt) r (w, tt)

@@ -3,6 +3,7 @@
 use mathlib.Core.Path.{sym, _∙_}
 use Rattle.lists.specs.declared.Words.{Words}
 use Rattle.rules.specs.declared.Profile.{Profile}
+use Rattle.flat.proofs.Saying.{raised-one}
 use Rattle.demands.proofs.OneOutcome.{Settled}
 use Rattle.demands.proofs.FlatContracts.{FlattenAnswers, RaiseAnswers, FlatReadAnswers, FlatWriteAnswers}
 use Rattle.demands.proofs.FlatContracts.{ArinDefaultAnswers, ArinBuildAnswers, ArinCheckAnswers, ArinShapeAnswers, ArinReadAnswers, ArinWriteAnswers, ArinAnswerAnswers}
@@ -13,7 +14,7 @@ pub flatten-settles : Settled FlattenAnswers
 flatten-settles o r s e f = e ∙ sym f
 
 pub raise-settles : Settled RaiseAnswers
-raise-settles x r s e f = e ∙ sym f
+raise-settles x r s e f = raised-one r s (e ∙ sym f)
 
 pub flat-read-settles : Settled FlatReadAnswers
 flat-read-settles l r s e f = e ∙ sym f

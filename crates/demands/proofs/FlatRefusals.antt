@@ -2,8 +2,7 @@
 -- refusal n applies there and none before it does; on a refusal everything else is zero.
 -- Assumes nothing.
 use mathlib.Core.Path.{_≡_, refl, sym, ap, _∙_, subst}
-use mathlib.Core.Logic.{_↔_}
-use Prim.Native.Nat.{ℕ, _<_}
+use Prim.Native.Nat.{ℕ}
 use Rattle.verdicts.specs.declared.Verdict.{Verdict}
 use Rattle.verdicts.specs.Refusals.{success}
 use Rattle.verdicts.proofs.First.{exactly}
@@ -12,30 +11,22 @@ use Rattle.lists.specs.declared.Listing.{Listing}
 use Rattle.lists.specs.Shape.{shapeRefusals}
 use Rattle.lists.specs.Reading.{readOf}
 use Rattle.lists.specs.Writing.{noWords}
+use Rattle.lists.proofs.Writings.{write-numbered, write-verdict, write-empty}
 use Rattle.rules.specs.declared.Profile.{Profile}
 use Rattle.rules.specs.declared.Profiled.{Profiled}
 use Rattle.rules.specs.Profiles.{halfWatts, noProfile, defaultRefusals, buildRefusals}
 use Rattle.rules.specs.Checking.{checkRefusals}
 use Rattle.requests.specs.Answering.{answerRefusals}
-use Rattle.flat.specs.declared.FlatObject.{FlatObject}
 use Rattle.flat.specs.declared.FlatObjects.{FlatObjects}
 use Rattle.flat.specs.declared.FlatReading.{FlatReading}
-use Rattle.flat.specs.declared.Raised.{Raised}
-use Rattle.flat.specs.Flat.{raisedNumber}
-use Rattle.flat.specs.Writing.{flatWriteRefusals}
+use Rattle.flat.specs.Writing.{encodedFlatAt, flatWriteRefusals}
 use Rattle.flat.specs.Kept.{noFlat}
-use Rattle.flat.proofs.BothWays.{raise-refuses}
 use Rattle.flat.proofs.Readings.{flat-read-verdict, flat-read-empty}
-use Rattle.flat.proofs.Writings.{flat-write-numbered, flat-write-verdict, flat-write-empty}
-use Rattle.demands.proofs.Refusals.{Answers, shape-refusals, read-refusals, default-refusals, build-refusals, check-refusals, answer-refusals}
-use Rattle.demands.proofs.FlatContracts.{RaiseAnswers, FlatReadAnswers, FlatWriteAnswers}
+use Rattle.demands.proofs.Refusals.{Answers, answers, shape-refusals, read-refusals, default-refusals, build-refusals, check-refusals, answer-refusals}
+use Rattle.demands.proofs.FlatContracts.{FlatReadAnswers, FlatWriteAnswers}
 use Rattle.demands.proofs.FlatContracts.{ArinDefaultAnswers, ArinBuildAnswers, ArinCheckAnswers, ArinShapeAnswers, ArinReadAnswers, ArinWriteAnswers, ArinAnswerAnswers}
 
 -- ---- flat
-
--- 12 exactly for a kind number above the five
-pub raise-12 : (x : FlatObject) (r : Raised) → RaiseAnswers x r → raisedNumber r ≡ 12 ↔ (4 < x .kind)
-raise-12 x r e = subst (λ (s : Raised). raisedNumber s ≡ 12 ↔ (4 < x .kind)) (sym e) (raise-refuses x)
 
 -- reading refuses as the shape check does, and gives an empty list with it
 pub flat-read-refusals : (l : Words) (r : FlatReading) → FlatReadAnswers l r
@@ -46,14 +37,14 @@ flat-read-refusals l r e =
       λ f. ap (λ (x : FlatReading). x .list) e ∙ flat-read-empty l (λ z. f (v ∙ z)),
     )
 
--- 10, then 12 at the first flat object of no kind, then what writing the list raised refuses
+-- 10, then 7, then what the shape of the words made refuses
 pub flat-write-refusals : (f : FlatObjects) (r : Listing) → FlatWriteAnswers f r
     → Answers (r .verdict) (flatWriteRefusals f) × ((r .verdict ≡ success → ⊥) → r .list ≡ noWords)
 flat-write-refusals f r e =
-    let v = ap (λ (x : Listing). x .verdict) e in
-    let x = exactly (flatWriteRefusals f) (flat-write-numbered f) in (
-      subst (λ (u : Verdict). Answers u (flatWriteRefusals f)) (sym (v ∙ flat-write-verdict f)) (x .succeeds, x .refuses),
-      λ n. ap (λ (y : Listing). y .list) e ∙ flat-write-empty f (λ z. n (v ∙ z)),
+    let made = encodedFlatAt (f .places) in
+    let v = ap (λ (x : Listing). x .verdict) e in (
+      answers (r .verdict) (flatWriteRefusals f) (exactly (flatWriteRefusals f) (write-numbered made (f .count))) (v ∙ write-verdict made (f .count)),
+      λ n. ap (λ (y : Listing). y .list) e ∙ write-empty made (f .count) (λ z. n (v ∙ z)),
     )
 
 -- ---- board, lists and requests

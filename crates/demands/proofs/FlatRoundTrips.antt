@@ -4,14 +4,14 @@ use mathlib.Core.Path.{_≡_, refl, sym, ap, _∙_, subst}
 use Prim.Native.Nat.{ℕ, _≤_}
 use lib.ListN.{getD}
 use Rattle.verdicts.specs.declared.Verdict.{Verdict}
-use Rattle.verdicts.specs.Refusals.{success, verdictOf}
-use Rattle.verdicts.proofs.First.{none-applied}
+use Rattle.verdicts.specs.Refusals.{success}
 use Rattle.objects.specs.declared.Object.{Object}
 use Rattle.lists.specs.declared.Words.{Words}
 use Rattle.lists.specs.declared.Listing.{Listing}
 use Rattle.lists.specs.Kept.{keptWords}
 use Rattle.lists.specs.Reading.{readOf}
 use Rattle.lists.specs.Writing.{writeOf}
+use Rattle.lists.proofs.Writings.{write-passes}
 use Rattle.lists.proofs.RoundTrips.{Words32}
 use Rattle.flat.specs.declared.FlatObject.{FlatObject}
 use Rattle.flat.specs.declared.FlatObjects.{FlatObjects}
@@ -20,11 +20,11 @@ use Rattle.flat.specs.declared.Raised.{Raised}
 use Rattle.flat.specs.declared.Raised.the-variants.{Known}
 use Rattle.flat.specs.Flat.{raisedOf, ownFields}
 use Rattle.flat.specs.Reading.{emptyFlat, flatReadingOf}
-use Rattle.flat.specs.Writing.{flatWriteRefusals, flatWriteOf}
+use Rattle.flat.specs.Writing.{encodedFlatAt, flatWriteOf}
 use Rattle.flat.specs.Kept.{keptFlat}
 use Rattle.flat.proofs.BothWays.{raise-flat, flat-raise-same}
+use Rattle.flat.proofs.Saying.{raised-is}
 use Rattle.flat.proofs.Readings.{flat-read-verdict, flat-read-list, flat-read-past}
-use Rattle.flat.proofs.Writings.{flat-write-numbered, flat-write-verdict}
 use Rattle.flat.proofs.Unread.{AgreeFlat, flat-write-unread}
 use Rattle.flat.proofs.RoundTrips.{flat-written, flat-write-read, flat-write-is}
 use Rattle.demands.proofs.RoundTrips.{read-then-write}
@@ -34,11 +34,11 @@ use Rattle.demands.proofs.FlatContracts.{FlattenAnswers, RaiseAnswers, 
 
 -- what was flattened is raised to the same object
 pub flatten-then-raise : (o : Object) (x : FlatObject) → FlattenAnswers o x → (r : Raised) → RaiseAnswers x r → r ≡ Known o
-flatten-then-raise o x e r f = f ∙ ap raisedOf e ∙ raise-flat o
+flatten-then-raise o x e r f = raised-is x r f ∙ ap raisedOf e ∙ raise-flat o
 
 -- what was raised is flattened to the same flat object, where the fields that its kind does not have are zero
 pub raise-then-flatten : (x : FlatObject) → ownFields x ≡ x → (o : Object) → RaiseAnswers x (Known o) → (y : FlatObject) → FlattenAnswers o y → y ≡ x
-raise-then-flatten x own o e y f = f ∙ flat-raise-same x o (sym e) own
+raise-then-flatten x own o e y f = f ∙ flat-raise-same x o (sym (raised-is x (Known o) e)) own
 
 -- ---- a list
 
@@ -56,8 +56,7 @@ arin-read-then-write l typed s r e w f =
 pub arin-write-then-read : (f : FlatObjects) (w : Listing) → ArinWriteAnswers f w → w .verdict ≡ success
     → (r : FlatReading) → ArinReadAnswers (w .list) r → r ≡ record { verdict = success; list = keptFlat f }
 arin-write-then-read f w e s r g =
-    let n : verdictOf (flatWriteRefusals f) .number ≡ 0 = ap (λ (v : Verdict). v .number) (sym (flat-write-verdict f) ∙ sym (ap (λ (y : Listing). y .verdict) e) ∙ s) in
-    let x = none-applied (flatWriteRefusals f) (flat-write-numbered f) n in
+    let x = write-passes (encodedFlatAt (f .places)) (f .count) (ap (λ (v : Verdict). v .number) (sym (ap (λ (y : Listing). y .verdict) e) ∙ s)) in
     g ∙ ap (λ (y : Listing). flatReadingOf (y .list)) (e ∙ flat-write-is f x) ∙ flat-write-read f x
 
 -- ---- past the count

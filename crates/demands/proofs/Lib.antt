@@ -1,5 +1,6 @@
 pub mod Contracts
 pub mod Refusals
+pub mod EnumRefusals
 pub mod SharingRefusals
 pub mod ManyRows
 pub mod RoundTrips

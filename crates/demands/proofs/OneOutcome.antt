@@ -3,13 +3,16 @@
 use mathlib.Core.Path.{_≡_, sym, _∙_}
 use mathlib.Core.Bool.{Bool}
 use Prim.Native.Nat.{ℕ}
+use Rattle.steps.proofs.Saying.{mv20-one, mv25-one, mv50-one, mv100-one, ma10-one, ma50-one}
+use Rattle.objects.proofs.Saying.{decoded-one, encoded-one}
+use Rattle.rules.proofs.Saying.{placed-one}
 use Rattle.steps.specs.declared.Mv50.{Mv50}
 use Rattle.steps.specs.declared.Mv100.{Mv100}
 use Rattle.steps.specs.declared.Ma10.{Ma10}
 use Rattle.objects.specs.declared.Object.{Object}
 use Rattle.demands.proofs.Contracts.{RoundDownAnswers, RoundUpAnswers}
 use Rattle.demands.proofs.Contracts.{Mv20ToMv25Answers, Mv20ToMv50Answers, Mv20ToMv100Answers, Mv25ToMv20Answers, Mv25ToMv50Answers, Mv25ToMv100Answers, Mv50ToMv20Answers, Mv50ToMv25Answers, Mv50ToMv100Answers, Mv100ToMv20Answers, Mv100ToMv25Answers, Mv100ToMv50Answers, Ma10ToMa50Answers, Ma50ToMa10Answers}
-use Rattle.demands.proofs.Contracts.{DecodeAnswers, ReservedAnswers, EncodeAnswers, FixedWordAnswers, PpsWordAnswers, AvsWordAnswers}
+use Rattle.demands.proofs.Contracts.{KindBitsAnswers, DecodeAnswers, ReservedAnswers, EncodeAnswers, FixedWordAnswers, PpsWordAnswers, AvsWordAnswers}
 use Rattle.demands.proofs.Contracts.{ShapeAnswers, ReadAnswers, RefuseAnswers, WriteAnswers}
 use Rattle.rules.specs.declared.Profile.{Profile}
 use Rattle.demands.proofs.Contracts.{BadCableAnswers, DefaultAnswers, BuildAnswers, CheckAnswers, WordAtAnswers}
@@ -28,7 +31,7 @@ use Rattle.board.specs.Promises.{SharesSetUp, SharesAttach, SharesAdvertise, Sh
 abbrev pub Settled : {A R : Type 0} → (A → R → Type 0) → Type 0
 Settled {A} {R} allows = (a : A) (r s : R) → allows a r → allows a s → r ≡ s
 
--- every contract here says that the answer equals a definition
+-- Every contract here says that the answer, or what it says where it is an enum, equals a definition; what an enum says tells its cases apart.
 only : {R : Type 0} {x r s : R} → r ≡ x → s ≡ x → r ≡ s
 only e f = e ∙ sym f
 
@@ -41,66 +44,69 @@ pub round-up-settles : (numerator : ℕ) → Settled (RoundUpAnswers numerator)
 round-up-settles numerator divisor r s e f = only e f
 
 pub mv20-to-mv25-settles : Settled Mv20ToMv25Answers
-mv20-to-mv25-settles v r s e f = only e f
+mv20-to-mv25-settles v r s e f = mv25-one r s (only e f)
 
 pub mv20-to-mv50-settles : Settled Mv20ToMv50Answers
-mv20-to-mv50-settles v r s e f = only e f
+mv20-to-mv50-settles v r s e f = mv50-one r s (only e f)
 
 pub mv20-to-mv100-settles : Settled Mv20ToMv100Answers
-mv20-to-mv100-settles v r s e f = only e f
+mv20-to-mv100-settles v r s e f = mv100-one r s (only e f)
 
 pub mv25-to-mv20-settles : Settled Mv25ToMv20Answers
-mv25-to-mv20-settles v r s e f = only e f
+mv25-to-mv20-settles v r s e f = mv20-one r s (only e f)
 
 pub mv25-to-mv50-settles : Settled Mv25ToMv50Answers
-mv25-to-mv50-settles v r s e f = only e f
+mv25-to-mv50-settles v r s e f = mv50-one r s (only e f)
 
 pub mv25-to-mv100-settles : Settled Mv25ToMv100Answers
-mv25-to-mv100-settles v r s e f = only e f
+mv25-to-mv100-settles v r s e f = mv100-one r s (only e f)
 
 pub mv50-to-mv20-settles : Settled Mv50ToMv20Answers
-mv50-to-mv20-settles v r s e f = only e f
+mv50-to-mv20-settles v r s e f = mv20-one r s (only e f)
 
 pub mv50-to-mv25-settles : Settled Mv50ToMv25Answers
-mv50-to-mv25-settles v r s e f = only e f
+mv50-to-mv25-settles v r s e f = mv25-one r s (only e f)
 
 pub mv50-to-mv100-settles : Settled Mv50ToMv100Answers
-mv50-to-mv100-settles v r s e f = only e f
+mv50-to-mv100-settles v r s e f = mv100-one r s (only e f)
 
 pub mv100-to-mv20-settles : Settled Mv100ToMv20Answers
-mv100-to-mv20-settles v r s e f = only e f
+mv100-to-mv20-settles v r s e f = mv20-one r s (only e f)
 
 pub mv100-to-mv25-settles : Settled Mv100ToMv25Answers
-mv100-to-mv25-settles v r s e f = only e f
+mv100-to-mv25-settles v r s e f = mv25-one r s (only e f)
 
 pub mv100-to-mv50-settles : Settled Mv100ToMv50Answers
-mv100-to-mv50-settles v r s e f = only e f
+mv100-to-mv50-settles v r s e f = mv50-one r s (only e f)
 
 pub ma10-to-ma50-settles : Settled Ma10ToMa50Answers
-ma10-to-ma50-settles v r s e f = only e f
+ma10-to-ma50-settles v r s e f = ma50-one r s (only e f)
 
 pub ma50-to-ma10-settles : Settled Ma50ToMa10Answers
-ma50-to-ma10-settles v r s e f = only e f
+ma50-to-ma10-settles v r s e f = ma10-one r s (only e f)
 
 -- ---- objects
 
+pub kind-bits-settles : Settled KindBitsAnswers
+kind-bits-settles w r s e f = only e f
+
 pub decode-settles : Settled DecodeAnswers
-decode-settles w r s e f = only e f
+decode-settles w r s e f = decoded-one r s (only e f)
 
 pub reserved-bit-set-settles : (o : Object) (first : Bool) → Settled (ReservedAnswers o first)
 reserved-bit-set-settles o first w r s e f = only e f
 
 pub encode-settles : Settled EncodeAnswers
-encode-settles o r s e f = only e f
+encode-settles o r s e f = encoded-one r s (only e f)
 
 pub fixed-word-settles : (flags peak : ℕ) (volts : Mv50) → Settled (FixedWordAnswers flags peak volts)
-fixed-word-settles flags peak volts current r s e f = only e f
+fixed-word-settles flags peak volts current r s e f = encoded-one r s (only e f)
 
 pub pps-word-settles : (limited : ℕ) (max min : Mv100) → Settled (PpsWordAnswers limited max min)
-pps-word-settles limited max min current r s e f = only e f
+pps-word-settles limited max min current r s e f = encoded-one r s (only e f)
 
 pub avs-word-settles : (peak : ℕ) (low : Ma10) → Settled (AvsWordAnswers peak low)
-avs-word-settles peak low high r s e f = only e f
+avs-word-settles peak low high r s e f = encoded-one r s (only e f)
 
 -- ---- lists
 
@@ -131,7 +137,7 @@ pub check-settles : (p : Profile) → Settled (CheckAnswers p)
 check-settles p l r s e f = only e f
 
 pub word-at-settles : (p : Profile) → Settled (WordAtAnswers p)
-word-at-settles p place r s e f = only e f
+word-at-settles p place r s e f = placed-one r s (only e f)
 
 -- ---- requests
 

@@ -1,29 +1,22 @@
 -- Demand 1, refusals: for each call, number n with its place is given exactly when refusal n applies there and none before it in
--- the order does; on a refusal everything else is zero. The tables of rows are in specs/ of `lists`, in 01's order.
+-- the order does; on a refusal everything else is zero. The tables of rows are in specs/ of `lists`, in 01's order. Calls whose answer is an enum are in
+-- EnumRefusals.
 -- Assumes nothing.
 use mathlib.Core.Path.{_≡_, refl, sym, ap, _∙_, subst}
-use mathlib.Core.Bool.{false}
 use mathlib.Core.List.{List}
-use mathlib.Core.Logic.{_↔_, _⊎_}
+use mathlib.Core.Logic.{_↔_}
 use Prim.Native.Nat.{ℕ}
 use Rattle.verdicts.specs.declared.Verdict.{Verdict}
 use Rattle.verdicts.specs.Refusals.{Refusal, verdict, success, verdictOf}
 use Rattle.verdicts.proofs.First.{NoneApply, First, Exactly, exactly}
 use Rattle.objects.specs.declared.Object.{Object}
-use Rattle.objects.specs.declared.Decoded.{Decoded}
-use Rattle.objects.specs.declared.Encoded.{Encoded}
-use Rattle.objects.specs.Bits.{bits}
-use Rattle.objects.specs.Layout.{allFit}
-use Rattle.objects.specs.Decode.{decodedNumber}
-use Rattle.objects.specs.Encode.{fieldsOf, encodedNumber}
-use Rattle.objects.proofs.Numbers.{decode-refuses, encode-refuses}
 use Rattle.lists.specs.declared.Words.{Words}
 use Rattle.lists.specs.declared.Objects.{Objects}
 use Rattle.lists.specs.declared.Reading.{Reading}
 use Rattle.lists.specs.declared.Listing.{Listing}
 use Rattle.lists.specs.Shape.{shapeRefusals}
 use Rattle.lists.specs.Reading.{noObjects}
-use Rattle.lists.specs.Writing.{noWords, writeRefusals}
+use Rattle.lists.specs.Writing.{noWords, encodedAt, writeRefusals}
 use Rattle.lists.proofs.Shapes.{shape-numbered, shape-verdict}
 use Rattle.lists.proofs.Readings.{read-verdict, read-empty}
 use Rattle.lists.proofs.Writings.{write-numbered, write-verdict, write-empty}
@@ -38,18 +31,7 @@ use Rattle.rules.proofs.Checks.{check-numbered, check-verdict}
 use Rattle.requests.specs.Judging.{refusalsOf}
 use Rattle.requests.specs.Answering.{answerRefusals}
 use Rattle.requests.proofs.Answers.{answer-numbered, answer-verdict, judged-numbered, judged-verdict}
-use Rattle.demands.proofs.Contracts.{DecodeAnswers, EncodeAnswers, ShapeAnswers, ReadAnswers, WriteAnswers, DefaultAnswers, BuildAnswers, CheckAnswers, AnswerAnswers, JudgeAnswers}
-
--- ---- one word
-
--- 12 exactly for the kinds 1101b and 1111b
-pub decode-12 : (w : ℕ) (r : Decoded) → DecodeAnswers w r
-    → decodedNumber r ≡ 12 ↔ ((bits w 31 30 ≡ 3) × ((bits w 29 28 ≡ 1) ⊎ (bits w 29 28 ≡ 3)))
-decode-12 w r e = subst (λ (d : Decoded). decodedNumber d ≡ 12 ↔ ((bits w 31 30 ≡ 3) × ((bits w 29 28 ≡ 1) ⊎ (bits w 29 28 ≡ 3)))) (sym e) (decode-refuses w)
-
--- 7 exactly where a field is too wide for its bits
-pub encode-7 : (o : Object) (r : Encoded) → EncodeAnswers o r → encodedNumber r ≡ 7 ↔ (allFit (fieldsOf o) ≡ false)
-encode-7 o r e = subst (λ (d : Encoded). encodedNumber d ≡ 7 ↔ (allFit (fieldsOf o) ≡ false)) (sym e) (encode-refuses o)
+use Rattle.demands.proofs.Contracts.{ShapeAnswers, ReadAnswers, WriteAnswers, DefaultAnswers, BuildAnswers, CheckAnswers, AnswerAnswers, JudgeAnswers}
 
 -- ---- a list
 
@@ -74,8 +56,8 @@ read-refusals l r e = (
 pub write-refusals : (o : Objects) (r : Listing) → WriteAnswers o r
     → Answers (r .verdict) (writeRefusals o) × ((r .verdict ≡ success → ⊥) → r .list ≡ noWords)
 write-refusals o r e = (
-  answers (r .verdict) (writeRefusals o) (exactly (writeRefusals o) (write-numbered o)) (ap (λ (x : Listing). x .verdict) e ∙ write-verdict o),
-  λ f. ap (λ (x : Listing). x .list) e ∙ write-empty o (λ z. f (ap (λ (x : Listing). x .verdict) e ∙ z)),
+  answers (r .verdict) (writeRefusals o) (exactly (writeRefusals o) (write-numbered (encodedAt (o .places)) (o .count))) (ap (λ (x : Listing). x .verdict) e ∙ write-verdict (encodedAt (o .places)) (o .count)),
+  λ f. ap (λ (x : Listing). x .list) e ∙ write-empty (encodedAt (o .places)) (o .count) (λ z. f (ap (λ (x : Listing). x .verdict) e ∙ z)),
 )
 
 -- ---- rules

@@ -10,6 +10,7 @@ use Rattle.objects.specs.declared.Decoded.{Decoded}
 use Rattle.objects.specs.declared.Decoded.the-variants.{Known}
 use Rattle.objects.specs.declared.Encoded.{Encoded}
 use Rattle.objects.specs.declared.Encoded.the-variants.{Word}
+use Rattle.objects.proofs.Saying.{decoded-is, encoded-is}
 use Rattle.objects.proofs.RoundTrip as one-word
 use Rattle.lists.specs.declared.Words.{Words}
 use Rattle.lists.specs.declared.Objects.{Objects}
@@ -18,7 +19,7 @@ use Rattle.lists.specs.declared.Listing.{Listing}
 use Rattle.lists.specs.Kept.{keptWords, keptObjects}
 use Rattle.lists.specs.Shape.{shapeOf}
 use Rattle.lists.specs.Reading.{readOf}
-use Rattle.lists.specs.Writing.{writeOf}
+use Rattle.lists.specs.Writing.{encodedAt, writeOf}
 use Rattle.lists.proofs.Shapes.{none-of}
 use Rattle.lists.proofs.Readings.{read-passes}
 use Rattle.lists.proofs.Writings.{write-passes, write-clear}
@@ -30,11 +31,11 @@ use Rattle.demands.proofs.Contracts.{DecodeAnswers, ReservedAnswers, En
 -- a word of an allowed kind with no reserved bit set decodes to an object, and that object encodes back to the word
 pub decode-then-encode : (w : ℕ) → w < 2 ^ 32 → (o : Object) → DecodeAnswers w (Known o)
     → (first : Bool) → ReservedAnswers o first w false → (e : Encoded) → EncodeAnswers o e → e ≡ Word w
-decode-then-encode w h o d first r e q = q ∙ one-word.decode-encode w h first o (sym d) (sym r)
+decode-then-encode w h o d first r e q = encoded-is o e q ∙ one-word.decode-encode w h first o (sym (decoded-is w (Known o) d)) (sym r)
 
 -- an object whose fields fit encodes to a word, and that word decodes back to the object
 pub encode-then-decode : (o : Object) (w : ℕ) → EncodeAnswers o (Word w) → (d : Decoded) → DecodeAnswers w d → d ≡ Known o
-encode-then-decode o w e d q = q ∙ one-word.encode-decode o w (sym e)
+encode-then-decode o w e d q = decoded-is w d q ∙ one-word.encode-decode o w (sym (encoded-is o (Word w) e))
 
 -- ---- a list
 
@@ -51,5 +52,5 @@ read-then-write l typed s r e w f =
 pub write-then-read : (o : Objects) (w : Listing) → WriteAnswers o w → w .verdict ≡ success
     → (r : Reading) → ReadAnswers (w .list) r → r ≡ record { verdict = success; list = keptObjects o }
 write-then-read o w e s r f =
-    let x = write-passes o (ap (λ (v : Verdict). v .number) (sym (ap (λ (y : Listing). y .verdict) e) ∙ s)) in
-    f ∙ ap (λ (y : Listing). readOf (y .list)) (e ∙ write-clear o x) ∙ whole-list.write-read o x
+    let x = write-passes (encodedAt (o .places)) (o .count) (ap (λ (v : Verdict). v .number) (sym (ap (λ (y : Listing). y .verdict) e) ∙ s)) in
+    f ∙ ap (λ (y : Listing). readOf (y .list)) (e ∙ write-clear (encodedAt (o .places)) (o .count) x) ∙ whole-list.write-read o x

@@ -1,0 +1,209 @@
+-- Demand 1 for the calls whose answer is an enum: what the answer says (its number and its values) is a refusal exactly where that refusal
+-- applies, and on a refusal all else is zero. Each of these calls has one refusal.
+-- Assumes nothing.
+use mathlib.Core.Path.{_≡_, refl, sym, ap, _∙_, subst}
+use mathlib.Core.Bool.{Bool, true, false, true≢false, not, cond}
+use mathlib.Core.Logic.{_↔_, _⊎_, inl, inr, ⊎-elim}
+use Prim.Native.Nat.{ℕ, _-_, _*_, _<_}
+use native.Mathlib.Omega.{arith}
+use lib.ListN.{getD}
+use Rattle.steps.specs.declared.Mv20.{Mv20}
+use Rattle.steps.specs.declared.InMv20.{InMv20}
+use Rattle.steps.specs.declared.Mv25.{Mv25}
+use Rattle.steps.specs.declared.InMv25.{InMv25}
+use Rattle.steps.specs.declared.Mv50.{Mv50}
+use Rattle.steps.specs.declared.InMv50.{InMv50}
+use Rattle.steps.specs.declared.Mv100.{Mv100}
+use Rattle.steps.specs.declared.InMv100.{InMv100}
+use Rattle.steps.specs.declared.Ma10.{Ma10}
+use Rattle.steps.specs.declared.InMa10.{InMa10}
+use Rattle.steps.specs.declared.Ma50.{Ma50}
+use Rattle.steps.specs.declared.InMa50.{InMa50}
+use Rattle.steps.specs.Ranges.{within}
+use Rattle.steps.specs.Measure.{convertedOf, mv20Says, mv25Says, mv50Says, mv100Says, ma10Says, ma50Says}
+use Rattle.steps.proofs.ConversionLaws.{exactly-only, lost, lost-only, given-or-refused}
+use Rattle.objects.specs.declared.Object.{Object}
+use Rattle.objects.specs.declared.Object.the-variants.{Fixed, Pps, Avs}
+use Rattle.objects.specs.declared.Decoded.{Decoded}
+use Rattle.objects.specs.declared.Decoded.the-variants.{Known, NotAllowed}
+use Rattle.objects.specs.declared.Encoded.{Encoded}
+use Rattle.objects.specs.declared.Encoded.the-variants.{Word, TooWide}
+use Rattle.objects.specs.Bits.{bits}
+use Rattle.objects.specs.Layout.{allFit}
+use Rattle.objects.specs.Decode.{zeroObject, decodeOf, decodedSays}
+use Rattle.objects.specs.Encode.{fieldsOf, encodeOf, encodedSays}
+use Rattle.objects.proofs.Numbers.{decode-refuses, encode-refuses}
+use Rattle.objects.proofs.Saying.{decode-says, encode-says}
+use Rattle.lists.specs.declared.Words.{Words}
+use Rattle.rules.specs.declared.Profile.{Profile}
+use Rattle.rules.specs.declared.Placed.{Placed}
+use Rattle.rules.specs.declared.Placed.the-variants as placed
+use Rattle.rules.specs.Building.{builtOf}
+use Rattle.rules.specs.Placing.{placedSays, placedIn}
+use Rattle.rules.proofs.Saying.{place-says}
+use Rattle.flat.specs.declared.FlatObject.{FlatObject}
+use Rattle.flat.specs.declared.Raised.{Raised}
+use Rattle.flat.specs.declared.Raised.the-variants as raised
+use Rattle.flat.specs.Flat.{raisedOf, raisedSays}
+use Rattle.flat.proofs.BothWays.{raise-refuses}
+use Rattle.flat.proofs.Saying.{raise-says}
+use Rattle.demands.proofs.Contracts.{Mv20ToMv25Answers, Mv20ToMv50Answers, Mv20ToMv100Answers, Mv25ToMv20Answers, Mv25ToMv50Answers, Mv25ToMv100Answers, Mv50ToMv20Answers, Mv50ToMv25Answers, Mv50ToMv100Answers, Mv100ToMv20Answers, Mv100ToMv25Answers, Mv100ToMv50Answers, Ma10ToMa50Answers, Ma50ToMa10Answers}
+use Rattle.demands.proofs.Contracts.{DecodeAnswers, EncodeAnswers, FixedWordAnswers, PpsWordAnswers, AvsWordAnswers, WordAtAnswers}
+use Rattle.demands.proofs.FlatContracts.{RaiseAnswers}
+
+-- ---- steps: 01 has no number for this refusal
+
+-- a figure in steps of the size `from`, asked for in steps of the size `to`
+pub record Converts (figure from to : ℕ) (said : Bool × ℕ) : Type 0 where
+  -- refused exactly where no figure of 16 bits has the same measure
+  pub refuses : said .0 ≡ true ↔ ((m : ℕ) → m * to ≡ figure * from → m < 65536 → ⊥)
+  pub given : said .0 ≡ false → (said .1 * to ≡ figure * from) × (said .1 < 65536)
+  pub empty : said .0 ≡ true → said .1 ≡ 0
+
+converts : (n a b : ℕ) → 0 < b → (said : Bool × ℕ) → said ≡ convertedOf n a b → Converts n a b said
+converts n a b h said e = subst (Converts n a b) (sym e) (⊎-elim exact refused (given-or-refused n a b)) where
+  exact : {m : ℕ} → convertedOf n a b ≡ (false, m) → Converts n a b (convertedOf n a b)
+  exact {m} q =
+      let x = exactly-only n a b m q in
+      subst (Converts n a b) (sym q) (record {
+        refuses = ((λ z. absurd (true≢false (sym z))), (λ f. absurd (f m (x .0) (x .1))));
+        given = λ z. x;
+        empty = λ z. absurd (true≢false (sym z));
+      })
+
+  refused : convertedOf n a b ≡ (true, 0) → Converts n a b (convertedOf n a b)
+  refused q = subst (Converts n a b) (sym q) (record {
+    refuses = ((λ z. lost-only n a b h q), (λ f. refl));
+    given = λ z. absurd (true≢false z);
+    empty = λ z. refl;
+  })
+
+pub mv20-to-mv25-refuses : (v : Mv20) (r : InMv25) → Mv20ToMv25Answers v r → Converts (v .0) 20 25 (mv25Says r)
+mv20-to-mv25-refuses v r e = converts (v .0) 20 25 (omega arith) (mv25Says r) e
+
+pub mv20-to-mv50-refuses : (v : Mv20) (r : InMv50) → Mv20ToMv50Answers v r → Converts (v .0) 20 50 (mv50Says r)
+mv20-to-mv50-refuses v r e = converts (v .0) 20 50 (omega arith) (mv50Says r) e
+
+pub mv20-to-mv100-refuses : (v : Mv20) (r : InMv100) → Mv20ToMv100Answers v r → Converts (v .0) 20 100 (mv100Says r)
+mv20-to-mv100-refuses v r e = converts (v .0) 20 100 (omega arith) (mv100Says r) e
+
+pub mv25-to-mv20-refuses : (v : Mv25) (r : InMv20) → Mv25ToMv20Answers v r → Converts (v .0) 25 20 (mv20Says r)
+mv25-to-mv20-refuses v r e = converts (v .0) 25 20 (omega arith) (mv20Says r) e
+
+pub mv25-to-mv50-refuses : (v : Mv25) (r : InMv50) → Mv25ToMv50Answers v r → Converts (v .0) 25 50 (mv50Says r)
+mv25-to-mv50-refuses v r e = converts (v .0) 25 50 (omega arith) (mv50Says r) e
+
+pub mv25-to-mv100-refuses : (v : Mv25) (r : InMv100) → Mv25ToMv100Answers v r → Converts (v .0) 25 100 (mv100Says r)
+mv25-to-mv100-refuses v r e = converts (v .0) 25 100 (omega arith) (mv100Says r) e
+
+pub mv50-to-mv20-refuses : (v : Mv50) (r : InMv20) → Mv50ToMv20Answers v r → Converts (v .0) 50 20 (mv20Says r)
+mv50-to-mv20-refuses v r e = converts (v .0) 50 20 (omega arith) (mv20Says r) e
+
+pub mv50-to-mv25-refuses : (v : Mv50) (r : InMv25) → Mv50ToMv25Answers v r → Converts (v .0) 50 25 (mv25Says r)
+mv50-to-mv25-refuses v r e = converts (v .0) 50 25 (omega arith) (mv25Says r) e
+
+pub mv50-to-mv100-refuses : (v : Mv50) (r : InMv100) → Mv50ToMv100Answers v r → Converts (v .0) 50 100 (mv100Says r)
+mv50-to-mv100-refuses v r e = converts (v .0) 50 100 (omega arith) (mv100Says r) e
+
+pub mv100-to-mv20-refuses : (v : Mv100) (r : InMv20) → Mv100ToMv20Answers v r → Converts (v .0) 100 20 (mv20Says r)
+mv100-to-mv20-refuses v r e = converts (v .0) 100 20 (omega arith) (mv20Says r) e
+
+pub mv100-to-mv25-refuses : (v : Mv100) (r : InMv25) → Mv100ToMv25Answers v r → Converts (v .0) 100 25 (mv25Says r)
+mv100-to-mv25-refuses v r e = converts (v .0) 100 25 (omega arith) (mv25Says r) e
+
+pub mv100-to-mv50-refuses : (v : Mv100) (r : InMv50) → Mv100ToMv50Answers v r → Converts (v .0) 100 50 (mv50Says r)
+mv100-to-mv50-refuses v r e = converts (v .0) 100 50 (omega arith) (mv50Says r) e
+
+pub ma10-to-ma50-refuses : (v : Ma10) (r : InMa50) → Ma10ToMa50Answers v r → Converts (v .0) 10 50 (ma50Says r)
+ma10-to-ma50-refuses v r e = converts (v .0) 10 50 (omega arith) (ma50Says r) e
+
+pub ma50-to-ma10-refuses : (v : Ma50) (r : InMa10) → Ma50ToMa10Answers v r → Converts (v .0) 50 10 (ma10Says r)
+ma50-to-ma10-refuses v r e = converts (v .0) 50 10 (omega arith) (ma10Says r) e
+
+-- ---- one number
+
+-- n exactly where its refusal applies, and 0 exactly where it does not; on a refusal the value is zero
+pub record Alone {A : Type 0} (none : A) (n : ℕ) (Applies : Type 0) (said : ℕ × A) : Type 0 where
+  pub refuses : said .0 ≡ n ↔ Applies
+  pub accepts : said .0 ≡ 0 ↔ (Applies → ⊥)
+  pub empty : (said .0 ≡ 0 → ⊥) → said .1 ≡ none
+
+-- an answer that is accepted, or refused with that number and no value
+abbrev TwoWays : {A : Type 0} → A → ℕ → ℕ × A → Type 0
+TwoWays none n said = (said .0 ≡ 0) ⊎ ((said .0 ≡ n) × (said .1 ≡ none))
+
+alone : {A : Type 0} (none : A) (n : ℕ) (Applies : Type 0) (said : ℕ × A) → (n ≡ 0 → ⊥) → TwoWays none n said → (said .0 ≡ n ↔ Applies)
+    → Alone none n Applies said
+alone none n Applies said f two exact = record {
+  refuses = exact;
+  accepts = ((λ e a. f (sym (exact .1 a) ∙ e)), (λ g. ⊎-elim (λ e. e) (λ x. absurd (g (exact .0 (x .0)))) two));
+  empty = λ g. ⊎-elim (λ e. absurd (g e)) (λ x. x .1) two;
+}
+
+-- ---- objects
+
+decoded-two : (d : Decoded) → TwoWays zeroObject 12 (decodedSays d)
+decoded-two (Known o) = inl refl
+decoded-two NotAllowed = inr (refl, refl)
+
+encoded-two : (e : Encoded) → TwoWays 0 7 (encodedSays e)
+encoded-two (Word w) = inl refl
+encoded-two TooWide = inr (refl, refl)
+
+-- 12 exactly for the kinds 1101b and 1111b
+pub decode-12 : (w : ℕ) (r : Decoded) → DecodeAnswers w r
+    → Alone zeroObject 12 ((bits w 31 30 ≡ 3) × ((bits w 29 28 ≡ 1) ⊎ (bits w 29 28 ≡ 3))) (decodedSays r)
+decode-12 w r e =
+    subst (Alone zeroObject 12 ((bits w 31 30 ≡ 3) × ((bits w 29 28 ≡ 1) ⊎ (bits w 29 28 ≡ 3)))) (sym (e ∙ decode-says w))
+    (alone zeroObject 12 _ (decodedSays (decodeOf w)) (λ z. omega (arith, z)) (decoded-two (decodeOf w)) (decode-refuses w))
+
+-- 7 exactly where a field is too wide for its bits
+pub encode-7 : (o : Object) (r : Encoded) → EncodeAnswers o r → Alone 0 7 (allFit (fieldsOf o) ≡ false) (encodedSays r)
+encode-7 o r e =
+    subst (Alone 0 7 (allFit (fieldsOf o) ≡ false)) (sym (e ∙ encode-says o))
+    (alone 0 7 _ (encodedSays (encodeOf o)) (λ z. omega (arith, z)) (encoded-two (encodeOf o)) (encode-refuses o))
+
+pub fixed-word-7 : (flags peak : ℕ) (volts : Mv50) (current : Ma10) (r : Encoded) → FixedWordAnswers flags peak volts current r
+    → Alone 0 7 (allFit (fieldsOf (Fixed flags peak volts current)) ≡ false) (encodedSays r)
+fixed-word-7 flags peak volts current r e = encode-7 (Fixed flags peak volts current) r e
+
+pub pps-word-7 : (limited : ℕ) (max min : Mv100) (current : Ma50) (r : Encoded) → PpsWordAnswers limited max min current r
+    → Alone 0 7 (allFit (fieldsOf (Pps limited max min current)) ≡ false) (encodedSays r)
+pps-word-7 limited max min current r e = encode-7 (Pps limited max min current) r e
+
+pub avs-word-7 : (peak : ℕ) (low high : Ma10) (r : Encoded) → AvsWordAnswers peak low high r
+    → Alone 0 7 (allFit (fieldsOf (Avs peak low high)) ≡ false) (encodedSays r)
+avs-word-7 peak low high r e = encode-7 (Avs peak low high) r e
+
+-- ---- flat
+
+raised-two : (r : Raised) → TwoWays zeroObject 12 (raisedSays r)
+raised-two (raised.Known o) = inl refl
+raised-two raised.Unknown = inr (refl, refl)
+
+-- 12 exactly for a kind number above the five
+pub raise-12 : (x : FlatObject) (r : Raised) → RaiseAnswers x r → Alone zeroObject 12 (4 < x .kind) (raisedSays r)
+raise-12 x r e =
+    subst (Alone zeroObject 12 (4 < x .kind)) (sym (e ∙ raise-says x))
+    (alone zeroObject 12 _ (raisedSays (raisedOf x)) (λ z. omega (arith, z)) (raised-two (raisedOf x)) (raise-refuses x))
+
+-- ---- rules
+
+placed-two : (r : Placed) → TwoWays 0 20 (placedSays r)
+placed-two (placed.Word w) = inl refl
+placed-two placed.NoPlace = inr (refl, refl)
+
+outside : (l : Words) (place : ℕ) → placedSays (placedIn l place) .0 ≡ 20 ↔ (within 1 (l .count) place ≡ false)
+unfolding placedIn
+outside l place = go (within 1 (l .count) place) (getD (l .words) (place - 1) 0) where
+  go : (b : Bool) (w : ℕ) → placedSays (cond b (placed.Word w) placed.NoPlace) .0 ≡ 20 ↔ (b ≡ false)
+  go true w = ((λ e. absurd (omega (arith, e))), (λ e. absurd (true≢false e)))
+  go false w = ((λ e. refl), (λ e. refl))
+
+-- 20 exactly where the list that is built has no such place
+pub word-at-refuses : (p : Profile) (place : ℕ) (r : Placed) → WordAtAnswers p place r
+    → Alone 0 20 (within 1 (builtOf p .list .count) place ≡ false) (placedSays r)
+word-at-refuses p place r e =
+    let l = builtOf p .list in
+    subst (Alone 0 20 (within 1 (l .count) place ≡ false)) (sym (e ∙ place-says l place))
+    (alone 0 20 _ (placedSays (placedIn l place)) (λ z. omega (arith, z)) (placed-two (placedIn l place)) (outside l place))
