@@ -2,45 +2,20 @@
 -- number is its own.
 -- Assumes nothing.
 use mathlib.Core.Path.{_≡_, refl, sym, ap, _∙_}
-use mathlib.Core.Bool.{true, false, not, and-eq-true-iff, true≢false}
-use mathlib.Core.List.{List, [], _∷_, _++_}
-use Prim.Native.Nat.{ℕ, _≤_, _<_}
-use native.Mathlib.Omega.{arith}
-use lib.Dec.{ltb}
-use borrow.Author.Tests.{eq-eqb, ltb-true, ltb-false}
+use mathlib.Core.List.{List, _++_}
+use Prim.Native.Nat.{ℕ, _≤_}
+use borrow.Author.Tests.{ltb-false}
 use Rattle.verdicts.specs.declared.Verdict.{Verdict}
-use Rattle.verdicts.specs.Refusals.{Refusal, refusal, firstOf, verdict, success, verdictOf}
-use Rattle.verdicts.proofs.First.{NoneApply, none-left, none-right, onward, all-missed, numbered}
+use Rattle.verdicts.specs.Refusals.{Refusal, firstOf, verdict, success, verdictOf}
+use Rattle.verdicts.proofs.First.{NoneApply, none-left, none-right, onward, all-missed, numbered-append, Telling, telling-append, telling-numbered, telling-given, none-told}
 use Rattle.steps.proofs.RangeLaws.{at-least}
+use Rattle.requests.proofs.Answers.{answer-numbered}
 use Rattle.ports.specs.declared.Row.{Row}
 use Rattle.ports.specs.declared.Standing.{Standing}
-use Rattle.ports.specs.Refusing.{sumFault, noSuchPort, cannotAttach, notAttached}
+use Rattle.ports.specs.RuleLists.{ruleList}
+use Rattle.ports.specs.Refusing.{sumFault, noSuchPort, cannotAttach, notAttached, ownRefusals, noPowerNow}
 use Rattle.ports.specs.Standing.{soFar, endRefusals, portEndRefusals}
-use Rattle.ports.specs.Deciding.{attachEndRefusals, useEndRefusals}
-
--- ---- every row that applies has a number, and 0 is none
-
-abbrev pub Telling : List Refusal → Type 0
-Telling [] = Unit {0}
-Telling (refusal b n p ∷ rs) = (n ≡ 0 → b ≡ false) × Telling rs
-
-telling-append : (xs ys : List Refusal) → Telling xs → Telling ys → Telling (xs ++ ys)
-telling-append [] ys x y = y
-telling-append (refusal b n p ∷ xs) ys x y = (x .0, telling-append xs ys (x .1) y)
-
-telling-numbered : (rs : List Refusal) → numbered rs ≡ true → Telling rs
-telling-numbered [] t = tt
-telling-numbered (refusal b n p ∷ rs) t =
-    let h = and-eq-true-iff (ltb 0 n) (numbered rs) .0 t in
-    let l : 0 < n = ltb-true 0 n (h .0) in
-    ((λ z. absurd (omega (arith, l, z))), telling-numbered rs (h .1))
-
--- a verdict with the number 0 says that no row applies
-none-told : (rs : List Refusal) → Telling rs → verdictOf rs .number ≡ 0 → NoneApply rs
-unfolding firstOf
-none-told [] t e = tt
-none-told (refusal true n p ∷ rs) t e = absurd (true≢false (t .0 e))
-none-told (refusal false n p ∷ rs) t e = (refl, none-told rs (t .1) e)
+use Rattle.ports.specs.Deciding.{leftBeside, attachEndRefusals, useEndRefusals, requestEndRefusals}
 
 -- ---- a table that a function has judged, and lets pass
 
@@ -62,11 +37,9 @@ module _ (xs : List Refusal) (t : Telling xs) (v : Verdict) (e : v ≡ verdictOf
 -- ---- the tables
 
 module _ (capacity : ℕ) (s : Standing) where
-  so-far-telling : Telling (soFar s)
-  so-far-telling = ((λ z. ap not (eq-eqb (s .fault .number) 0 z)), tt)
-
   pub end-telling : Telling (endRefusals capacity s)
-  end-telling = telling-append (soFar s) (sumFault capacity (s .held)) so-far-telling (telling-numbered (sumFault capacity (s .held)) refl)
+  end-telling =
+      telling-append (soFar s) (sumFault capacity (s .held)) (telling-given (s .fault)) (telling-numbered (sumFault capacity (s .held)) refl)
 
   pub sum-fits : NoneApply (endRefusals capacity s) → s .held ≤ capacity
   sum-fits x = ltb-false capacity (s .held) (none-right (soFar s) (sumFault capacity (s .held)) x .0)
@@ -94,6 +67,13 @@ module _ (capacity : ℕ) (s : Standing) where
       pub use-telling : Telling (useEndRefusals capacity s y port)
       use-telling =
           telling-append (portEndRefusals capacity s port) (notAttached y port) port-telling (telling-numbered (notAttached y port) refl)
+
+      pub request-telling : (word : ℕ) → Telling (requestEndRefusals capacity s y port word)
+      request-telling word =
+          let own = ownRefusals y word in
+          let power = noPowerNow (leftBeside capacity s y) y port word in
+          telling-append (useEndRefusals capacity s y port) (own ++ power) use-telling
+          (telling-numbered (own ++ power) (numbered-append own power (answer-numbered (ruleList y) word) refl))
 
       pub use-port : NoneApply (useEndRefusals capacity s y port) → NoneApply (portEndRefusals capacity s port)
       use-port x = none-left (portEndRefusals capacity s port) (notAttached y port) x

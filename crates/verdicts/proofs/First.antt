@@ -1,15 +1,15 @@
 -- Laws of the first refusal, over any table of rows: what a verdict says of the rows, and what the rows say of the verdict.
 -- Assumes nothing.
 use mathlib.Core.Path.{_≡_, refl, sym, ap, ap₂, _∙_, subst}
-use mathlib.Core.Bool.{Bool, true, false, _&&_, and-eq-true-iff}
+use mathlib.Core.Bool.{Bool, true, false, not, _&&_, and-eq-true-iff, true≢false}
 use mathlib.Core.List.{List, [], _∷_, _++_}
 use mathlib.Core.Logic.{_↔_, ⊎-elim}
 use Prim.Native.Nat.{ℕ, zero, suc, _+_, _<_}
 use native.Mathlib.Nat.{eq-or-lt-of-le, le-of-suc-le-suc, lt-suc-self}
 use native.Mathlib.Numerals.{add-one}
 use native.Mathlib.Omega.{arith}
-use borrow.Author.Tests.{ltb-true}
-use lib.Dec.{ltb}
+use borrow.Author.Tests.{ltb-true, eq-eqb}
+use lib.Dec.{ltb, eqb}
 use Rattle.verdicts.specs.declared.Verdict.{Verdict}
 use Rattle.verdicts.specs.Refusals.{Refusal, refusal, eachPlace, firstOf, verdict, success, verdictOf}
 
@@ -121,15 +121,41 @@ unfolding eachPlace
 numbered-places rows f zero = refl
 numbered-places rows f (suc n) = numbered-append (eachPlace rows n) (rows n) (numbered-places rows f n) (f n)
 
+-- It is enough that every row that applies has a number: a row may have it from an answer that was given before.
+abbrev pub Telling : List Refusal → Type 0
+Telling [] = Unit {0}
+Telling (refusal b n p ∷ rs) = (n ≡ 0 → b ≡ false) × Telling rs
+
+pub telling-append : (xs ys : List Refusal) → Telling xs → Telling ys → Telling (xs ++ ys)
+telling-append [] ys x y = y
+telling-append (refusal b n p ∷ xs) ys x y = (x .0, telling-append xs ys (x .1) y)
+
+pub telling-numbered : (rs : List Refusal) → numbered rs ≡ true → Telling rs
+telling-numbered [] t = tt
+telling-numbered (refusal b n p ∷ rs) t =
+    let h = and-eq-true-iff (ltb 0 n) (numbered rs) .0 t in
+    let l : 0 < n = ltb-true 0 n (h .0) in
+    ((λ z. absurd (omega (arith, l, z))), telling-numbered rs (h .1))
+
+-- the row of a verdict that was given before applies where that was a refusal
+pub telling-given : (v : Verdict) → Telling (refusal (not (eqb (v .number) 0)) (v .number) (v .place) ∷ [])
+telling-given v = ((λ z. ap not (eq-eqb (v .number) 0 z)), tt)
+
 -- a verdict with the number 0 says that no row applies
-pub none-applied : (rs : List Refusal) → numbered rs ≡ true → verdictOf rs .number ≡ 0 → NoneApply rs
+pub none-told : (rs : List Refusal) → Telling rs → verdictOf rs .number ≡ 0 → NoneApply rs
 unfolding firstOf
-none-applied [] t e = tt
-none-applied (refusal true n p ∷ rs) t e = let h : 0 < n = ltb-true 0 n (and-eq-true-iff (ltb 0 n) (numbered rs) .0 t .0) in absurd (omega arith)
-none-applied (refusal false n p ∷ rs) t e = (refl, none-applied rs (and-eq-true-iff (ltb 0 n) (numbered rs) .0 t .1) e)
+none-told [] t e = tt
+none-told (refusal true n p ∷ rs) t e = absurd (true≢false (t .0 e))
+none-told (refusal false n p ∷ rs) t e = (refl, none-told rs (t .1) e)
+
+pub none-applied : (rs : List Refusal) → numbered rs ≡ true → verdictOf rs .number ≡ 0 → NoneApply rs
+none-applied rs t e = none-told rs (telling-numbered rs t) e
+
+pub passes-told : (rs : List Refusal) → Telling rs → verdictOf rs .number ≡ 0 → verdictOf rs ≡ success
+passes-told rs t e = all-missed verdict success rs (none-told rs t e)
 
 pub passes : (rs : List Refusal) → numbered rs ≡ true → verdictOf rs .number ≡ 0 → verdictOf rs ≡ success
-passes rs t e = all-missed verdict success rs (none-applied rs t e)
+passes rs t e = passes-told rs (telling-numbered rs t) e
 
 -- any other verdict is a row's, and decides every answer over these rows
 pub refused-so : {A : Type 0} (refused : ℕ → ℕ → A) (rs : List Refusal) → (verdictOf rs .number ≡ 0 → ⊥)
@@ -183,9 +209,9 @@ pub record Exactly (rs : List Refusal) : Type 0 where
   pub succeeds : verdictOf rs ≡ success ↔ NoneApply rs
   pub refuses : (n p : ℕ) → (n ≡ 0 → ⊥) → verdictOf rs ≡ verdict n p ↔ First rs n p
 
-pub exactly : (rs : List Refusal) → numbered rs ≡ true → Exactly rs
-exactly rs t = record {
-  succeeds = ((λ e. none-applied rs t (ap (λ (v : Verdict). v .number) e)), (λ x. all-missed verdict success rs x));
+pub exactly-told : (rs : List Refusal) → Telling rs → Exactly rs
+exactly-told rs t = record {
+  succeeds = ((λ e. none-told rs t (ap (λ (v : Verdict). v .number) e)), (λ x. all-missed verdict success rs x));
   refuses = λ n p f. (
     (λ e.
         let en = ap (λ (v : Verdict). v .number) e in
@@ -195,3 +221,16 @@ exactly rs t = record {
     (λ g. given-of-first verdict rs n p g success),
   );
 }
+
+pub exactly : (rs : List Refusal) → numbered rs ≡ true → Exactly rs
+exactly rs t = exactly-told rs (telling-numbered rs t)
+
+-- ---- an answer that has its verdict in it
+
+module _ {A : Type 0} (said : A → Verdict) (refused : ℕ → ℕ → A) (tells : (n p : ℕ) → said (refused n p) ≡ verdict n p) where
+  -- the verdict is that of the table
+  pub said-first : (rs : List Refusal) (answer : A) → said answer ≡ success → said (firstOf refused rs answer) ≡ verdictOf rs
+  unfolding firstOf
+  said-first [] answer e = e
+  said-first (refusal true n p ∷ rs) answer e = tells n p
+  said-first (refusal false n p ∷ rs) answer e = said-first rs answer e
