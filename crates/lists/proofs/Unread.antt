@@ -8,10 +8,9 @@ use native.Mathlib.Nat.{lt-suc-self}
 use native.Mathlib.Omega.{arith}
 use lib.Dec.{eqb}
 use lib.ListN.{getD}
-use Rattle.verdicts.specs.Refusals.{Refusal, refusal, eachPlace, firstOf, verdict, success, verdictOf}
-use Rattle.verdicts.proofs.First.{hit, same-places}
+use Rattle.verdicts.specs.Refusals.{Refusal, refusal, eachPlace, firstOf, verdict, success}
+use Rattle.verdicts.proofs.First.{hit, onward, same-places}
 use Rattle.steps.specs.declared.Ma10.{Ma10}
-use Rattle.objects.specs.declared.Object.{Object}
 use Rattle.objects.specs.declared.Object.the-variants.{Fixed, Battery, Variable, Pps, Avs}
 use Rattle.objects.specs.declared.Decoded.{Decoded}
 use Rattle.objects.specs.declared.Decoded.the-variants.{Known, NotAllowed}
@@ -24,9 +23,8 @@ use Rattle.lists.specs.declared.Place.{Place}
 use Rattle.lists.specs.declared.Objects.{Objects}
 use Rattle.lists.specs.declared.Reading.{Reading}
 use Rattle.lists.specs.declared.Listing.{Listing}
-use Rattle.lists.specs.Shape.{badCount, isFixed5V, wordRefusals, wordRows, fixedWith, hasFixed, avsMatches, avsDiffers, avsRows, shapeRefusals, shapeOf}
-use Rattle.lists.specs.Seven.{sevenTo}
-use Rattle.lists.specs.Reading.{emptyPlace, objectOf, placeOf, objectsOf, readRefused, readOf}
+use Rattle.lists.specs.Shape.{badCount, isFixed5V, wordRefusals, wordRows, fixedWith, hasFixed, avsDiffers, avsRows, shapeRefusals, shapeOf}
+use Rattle.lists.specs.Reading.{emptyPlace, objectOf, placeOf, readRefused, readOf}
 use Rattle.lists.specs.Writing.{wideRows, wordIn, wordsFrom, writingRefusals, writeRefused, writtenFrom, encodedAt, writeOf}
 use Rattle.lists.proofs.Shapes.{count-low}
 use Rattle.lists.proofs.Sevens.{same-seven}
@@ -36,6 +34,14 @@ use Rattle.lists.proofs.Readings.{readAs}
 pub record AgreeWords (l m : Words) : Type 0 where
   pub count : l .count ≡ m .count
   pub words : (k : ℕ) → k < l .count → getD (l .words) k 0 ≡ getD (m .words) k 0
+
+-- a list of these words
+abbrev pub counting : List ℕ → ℕ → Words
+counting ws n = record { words = ws; count = n }
+
+-- with the other list's count the list is the other
+pub recounted : {A : Type 0} (f : Words → A) (l m : Words) → AgreeWords l m → f (counting (m .words) (l .count)) ≡ f m
+recounted f l m a = ap (λ (n : ℕ). f (counting (m .words) n)) (a .count)
 
 pub record AgreeObjects (o q : Objects) : Type 0 where
   pub count : o .count ≡ q .count
@@ -71,29 +77,35 @@ module _ (ws vs : List ℕ) (n : ℕ) (e : (k : ℕ) → k < n → getD ws k 0 �
       (same-differs (decodeOf (getD ws k 0)) ∙ ap (λ (w : ℕ). ofObject (avsDiffers vs n) (decodeOf w)) (e k h))
 
   -- with a count of 1 to 7 the very tables are the same
-  pub same-shape-rows : badCount n ≡ false → shapeRefusals (record { words = ws; count = n }) ≡ shapeRefusals (record { words = vs; count = n })
+  pub same-shape-rows : badCount n ≡ false → shapeRefusals (counting ws n) ≡ shapeRefusals (counting vs n)
   same-shape-rows b =
       ap₂ (λ (w : ℕ) (rs : List Refusal). refusal (badCount n) 10 0 ∷ refusal (not (isFixed5V w)) 11 1 ∷ rs) (e 0 (count-low n b))
       (ap₂ _++_ (same-places (wordRows ws) (wordRows vs) n (same-word-rows ws vs n e)) (same-places (avsRows ws n) (avsRows vs n) n same-avs-rows))
 
   -- any answer over the shape's rows
   pub same-by-shape : {A : Type 0} (refused : ℕ → ℕ → A) (x y : A) → x ≡ y
-      → firstOf refused (shapeRefusals (record { words = ws; count = n })) x ≡ firstOf refused (shapeRefusals (record { words = vs; count = n })) y
+      → firstOf refused (shapeRefusals (counting ws n)) x ≡ firstOf refused (shapeRefusals (counting vs n)) y
   same-by-shape refused x y q = go (badCount n) refl where
     go : (b : Bool) → badCount n ≡ b
-        → firstOf refused (shapeRefusals (record { words = ws; count = n })) x ≡ firstOf refused (shapeRefusals (record { words = vs; count = n })) y
+        → firstOf refused (shapeRefusals (counting ws n)) x ≡ firstOf refused (shapeRefusals (counting vs n)) y
     go true b = hit refused x 10 0 _ b ∙ sym (hit refused y 10 0 _ b)
     go false b = ap₂ (λ (rs : List Refusal) (z : _). firstOf refused rs z) (same-shape-rows b) q
 
-abbrev counting : List ℕ → ℕ → Words
-counting ws n = record { words = ws; count = n }
+  -- .. and over rows that come after them
+  pub same-past-shape : {A : Type 0} (refused : ℕ → ℕ → A) (answer : A) (xs ys : List Refusal)
+      → firstOf refused xs answer ≡ firstOf refused ys answer
+      → firstOf refused (shapeRefusals (counting ws n) ++ xs) answer ≡ firstOf refused (shapeRefusals (counting vs n) ++ ys) answer
+  same-past-shape refused answer xs ys q =
+      onward refused answer (shapeRefusals (counting ws n)) xs
+      ∙ same-by-shape refused (firstOf refused xs answer) (firstOf refused ys answer) q
+      ∙ sym (onward refused answer (shapeRefusals (counting vs n)) ys)
 
 module _ (l m : Words) (a : AgreeWords l m) where
   pub shape-unread : shapeOf l ≡ shapeOf m
   unfolding shapeOf
   shape-unread =
       same-by-shape (l .words) (m .words) (l .count) (a .words) verdict success success refl
-      ∙ ap (λ (n : ℕ). verdictOf (shapeRefusals (counting (m .words) n))) (a .count)
+      ∙ recounted shapeOf l m a
 
   pub read-unread : readOf l ≡ readOf m
   unfolding readOf
@@ -101,7 +113,7 @@ module _ (l m : Words) (a : AgreeWords l m) where
       same-by-shape (l .words) (m .words) (l .count) (a .words) readRefused (readAs l) (readAs (counting (m .words) (l .count)))
       (ap (λ (ps : List Place). asRead ps (l .count))
       (same-seven (placeOf (l .words)) (placeOf (m .words)) emptyPlace (l .count) (λ k h. ap placed (a .words k h))))
-      ∙ ap (λ (n : ℕ). readOf (counting (m .words) n)) (a .count)
+      ∙ recounted readOf l m a
     where
       placed : ℕ → Place
       placed w = record { object = objectOf (decodeOf w) }

@@ -4,7 +4,9 @@ use mathlib.Core.Path.{_≡_, refl, _∙_}
 use mathlib.Core.Bool.{true, false}
 use Prim.Native.Nat.{ℕ, _-_, _<_, _≤_}
 use native.Mathlib.Omega.{arith}
-use borrow.Author.Tests.{lt-ltb, le-ltb}
+use lib.Dec.{ltb}
+use borrow.Author.Tests.{lt-ltb, le-ltb, ltb-false}
+use Rattle.verdicts.proofs.Bools.{either-false}
 use Rattle.verdicts.specs.Refusals.{verdict, success, verdictOf}
 use Rattle.verdicts.proofs.First.{hit, miss, onward, all-missed, refused-so, numbered, numbered-append}
 use Rattle.objects.specs.declared.Object.{Object}
@@ -29,6 +31,14 @@ position-past count position h k = rw (le-ltb position 1 h, lt-ltb count positio
 
 pub position-good : (count position : ℕ) → 1 ≤ position → position ≤ count → badPosition count position ≡ false
 position-good count position h k = rw (le-ltb position 1 h, le-ltb count position k)
+
+-- a position of 1..count names a word of the list
+pub position-inside : (count position : ℕ) → badPosition count position ≡ false → position - 1 < count
+position-inside count position e =
+    let h = either-false (ltb position 1) (ltb count position) e in
+    let low = ltb-false position 1 (h .0) in
+    let high = ltb-false count position (h .1) in
+    omega (arith, low, high)
 
 -- ---- every row has a number
 

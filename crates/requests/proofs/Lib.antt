@@ -7,3 +7,4 @@ pub mod FiveKinds
 pub mod Answers
 pub mod Accepted
 pub mod At15V
+pub mod Unread

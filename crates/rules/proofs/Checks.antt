@@ -3,7 +3,6 @@
 use mathlib.Core.Path.{_≡_, refl, _∙_}
 use mathlib.Core.Bool.{true, false}
 use mathlib.Core.List.{List, _∷_, _++_}
-use Prim.Native.Nat.{_+_}
 use Rattle.verdicts.specs.Refusals.{Refusal, refusal, eachPlace, verdict, success, verdictOf}
 use Rattle.verdicts.proofs.First.{NoneApply, hit, miss, onward, all-missed, refused-so, numbered, numbered-append, numbered-places}
 use Rattle.lists.specs.declared.Words.{Words}
@@ -16,7 +15,7 @@ use Rattle.rules.specs.Checking.{currentRows, checkRefusals, checkedOf}
 
 -- ---- the check, in order
 
-abbrev afterShape : Profile → Words → List Refusal
+abbrev pub afterShape : Profile → Words → List Refusal
 afterShape p l = refusal (wrongSet p l) 18 0 ∷ eachPlace (currentRows p (l .words)) (l .count)
 
 module _ (p : Profile) (l : Words) where

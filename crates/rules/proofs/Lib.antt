@@ -28,3 +28,4 @@ pub mod WalkDecides
 pub mod Built
 pub mod BuiltCurrents
 pub mod BuiltPasses
+pub mod Unread
