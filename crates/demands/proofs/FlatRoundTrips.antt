@@ -25,7 +25,6 @@ use Rattle.flat.specs.Kept.{keptFlat}
 use Rattle.flat.proofs.BothWays.{raise-flat, flat-raise-same}
 use Rattle.flat.proofs.Saying.{raised-is}
 use Rattle.flat.proofs.Readings.{flat-read-verdict, flat-read-list, flat-read-past}
-use Rattle.flat.proofs.Unread.{AgreeFlat, flat-write-unread}
 use Rattle.flat.proofs.RoundTrips.{flat-written, flat-write-read, flat-write-is}
 use Rattle.demands.proofs.RoundTrips.{read-then-write}
 use Rattle.demands.proofs.FlatContracts.{FlattenAnswers, RaiseAnswers, ArinShapeAnswers, ArinReadAnswers, ArinWriteAnswers}
@@ -65,7 +64,3 @@ arin-write-then-read f w e s r g =
 pub arin-read-past : (l : Words) (r : FlatReading) → ArinReadAnswers l r → (k : ℕ) → r .list .count ≤ k → getD (r .list .places) k emptyFlat ≡ emptyFlat
 arin-read-past l r e =
     subst (λ (x : FlatReading). (k : ℕ) → x .list .count ≤ k → getD (x .list .places) k emptyFlat ≡ emptyFlat) (sym e) (flat-read-past l)
-
--- "and not read on the way in"
-pub arin-write-does-not-look : (f g : FlatObjects) → AgreeFlat f g → (r s : Listing) → ArinWriteAnswers f r → ArinWriteAnswers g s → r ≡ s
-arin-write-does-not-look f g a r s e h = e ∙ flat-write-unread f g a ∙ sym h

@@ -20,4 +20,5 @@ pub mod WrongLibraries
 pub mod FlatContracts
 pub mod FlatOutcomes
 pub mod FlatRefusals
+pub mod FlatUnread
 pub mod FlatRoundTrips
