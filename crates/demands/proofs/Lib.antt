@@ -2,6 +2,7 @@ pub mod Contracts
 pub mod Refusals
 pub mod EnumRefusals
 pub mod SharingRefusals
+pub mod DecidingRefusals
 pub mod ManyRows
 pub mod RoundTrips
 pub mod Unread

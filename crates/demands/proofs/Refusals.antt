@@ -7,8 +7,8 @@ use mathlib.Core.List.{List}
 use mathlib.Core.Logic.{_↔_}
 use Prim.Native.Nat.{ℕ}
 use Rattle.verdicts.specs.declared.Verdict.{Verdict}
-use Rattle.verdicts.specs.Refusals.{Refusal, verdict, success, verdictOf}
-use Rattle.verdicts.proofs.First.{NoneApply, First, Exactly, exactly}
+use Rattle.verdicts.specs.Refusals.{Refusal, firstOf, verdict, success, verdictOf}
+use Rattle.verdicts.proofs.First.{NoneApply, First, Telling, passes-told, refused-so, Exactly, exactly-told, exactly, said-first}
 use Rattle.objects.specs.declared.Object.{Object}
 use Rattle.lists.specs.declared.Words.{Words}
 use Rattle.lists.specs.declared.Objects.{Objects}
@@ -41,6 +41,16 @@ Answers v rs = (v ≡ success ↔ NoneApply rs) × ((n p : ℕ) → (n ≡ 0 →
 
 pub answers : (v : Verdict) (rs : List Refusal) → (Exactly rs) → v ≡ verdictOf rs → Answers v rs
 answers v rs x e = subst (λ (u : Verdict). Answers u rs) (sym e) (x .succeeds, x .refuses)
+
+-- an answer that has its verdict in it: the verdict answers the table, and what is refused is a refusal in all its parts
+pub answers-with : {A : Type 0} (said : A → Verdict) (refused : ℕ → ℕ → A) → ((n p : ℕ) → said (refused n p) ≡ verdict n p)
+    → (rs : List Refusal) → Telling rs → (answer : A) → said answer ≡ success → (r : A) → r ≡ firstOf refused rs answer
+    → Answers (said r) rs × ((said r ≡ success → ⊥) → r ≡ refused (verdictOf rs .number) (verdictOf rs .place))
+answers-with said refused tells rs t answer good r e =
+    let v = ap said e ∙ said-first said refused tells rs answer good in (
+      answers (said r) rs (exactly-told rs t) v,
+      λ f. e ∙ refused-so refused rs (λ z. f (v ∙ passes-told rs t z)) answer,
+    )
 
 pub shape-refusals : (l : Words) (r : Verdict) → ShapeAnswers l r → Answers r (shapeRefusals l)
 shape-refusals l r e = answers r (shapeRefusals l) (exactly (shapeRefusals l) (shape-numbered l)) (e ∙ shape-verdict l)

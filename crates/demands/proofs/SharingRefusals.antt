@@ -2,12 +2,13 @@
 -- order does; on a refusal the list is empty, the power zero, and no row changes. The tables of rows are in specs/ of `ports`.
 -- Assumes nothing.
 use mathlib.Core.Path.{_≡_, refl, ap, _∙_}
-use mathlib.Core.Bool.{true}
 use mathlib.Core.List.{List}
 use Prim.Native.Nat.{ℕ}
 use Rattle.verdicts.specs.declared.Verdict.{Verdict}
-use Rattle.verdicts.specs.Refusals.{Refusal, firstOf, verdict, success, verdictOf}
-use Rattle.verdicts.proofs.First.{onto, refused-so, passes, numbered, exactly}
+use Rattle.verdicts.specs.Refusals.{Refusal, firstOf, success, verdictOf}
+use Rattle.verdicts.proofs.First.{Telling, telling-numbered, none-told, refused-so, exactly-told}
+use Rattle.steps.specs.declared.HalfWatts.{HalfWatts}
+use Rattle.lists.specs.declared.Words.{Words}
 use Rattle.lists.specs.declared.Listing.{Listing}
 use Rattle.lists.specs.Writing.{noWords, writeRefused}
 use Rattle.rules.specs.Profiles.{halfWatts}
@@ -17,23 +18,39 @@ use Rattle.ports.specs.Refusing.{setUpRefusals, attachRefusals, useRefusals, re
 use Rattle.ports.specs.Lending.{noPowerLeft, unlessRefused, setUpAnswer, setUpRows, attachAnswer, attachRows, advertiseAnswer, advertiseRows, requestAnswer, requestRows, detachAnswer, detachRows, remainingAnswer}
 use Rattle.ports.proofs.Passing.{set-up-numbered, attach-numbered, use-numbered, request-numbered, remaining-numbered}
 use Rattle.board.specs.Promises.{SharesSetUp, SharesAttach, SharesAdvertise, SharesRequest, SharesDetach, SharesRemaining}
-use Rattle.demands.proofs.Refusals.{Answers, answers}
+use Rattle.demands.proofs.Refusals.{Answers, answers, answers-with}
 
--- ---- a refusal, of any table
+-- ---- an answer over any table
 
-module _ (rs : List Refusal) (t : numbered rs ≡ true) where
-  refused : (verdictOf rs ≡ success → ⊥) → verdictOf rs .number ≡ 0 → ⊥
-  refused f z = f (passes rs t z)
+module _ (rs : List Refusal) (t : Telling rs) where
+  pub answers-list : (list : Words) (r : Listing) → r ≡ firstOf writeRefused rs (record { verdict = success; list = list })
+      → Answers (r .verdict) rs × ((r .verdict ≡ success → ⊥) → r .list ≡ noWords)
+  answers-list list r e =
+      let both = answers-with (λ (x : Listing). x .verdict) writeRefused (λ n p. refl) rs t _ refl r e in
+      (both .0, λ f. ap (λ (x : Listing). x .list) (both .1 f))
 
-  unwritten : (ys after : List Row) → (verdictOf rs ≡ success → ⊥) → unlessRefused ys rs after ≡ ys
-  unwritten ys after f = refused-so (λ n p. ys) rs (refused f) after
+  pub answers-power : (power : HalfWatts) (r : RemainingPower) → r ≡ firstOf noPowerLeft rs (record { verdict = success; power = power })
+      → Answers (r .verdict) rs × ((r .verdict ≡ success → ⊥) → r .power ≡ halfWatts 0)
+  answers-power power r e =
+      let both = answers-with (λ (x : RemainingPower). x .verdict) noPowerLeft (λ n p. refl) rs t _ refl r e in
+      (both .0, λ f. ap (λ (x : RemainingPower). x .power) (both .1 f))
 
-  -- a list with its verdict
-  listing-verdict : (a : Listing) → a .verdict ≡ success → firstOf writeRefused rs a .verdict ≡ verdictOf rs
-  listing-verdict a e = onto (λ (l : Listing). l .verdict) writeRefused rs a ∙ ap (firstOf verdict rs) e
+  module _ (ys zs after : List Row) (e : zs ≡ unlessRefused ys rs after) where
+    unwritten : (v : Verdict) → Answers v rs → (v ≡ success → ⊥) → zs ≡ ys
+    unwritten v a f = e ∙ refused-so (λ n p. ys) rs (λ z. f (a .0 .1 (none-told rs t z))) after
 
-  listing-empty : (a : Listing) → (verdictOf rs ≡ success → ⊥) → firstOf writeRefused rs a .list ≡ noWords
-  listing-empty a f = ap (λ (l : Listing). l .list) (refused-so writeRefused rs (refused f) a)
+    -- a verdict alone, and the rows
+    refuses : (r : Verdict) → r ≡ verdictOf rs → Answers r rs × ((r ≡ success → ⊥) → zs ≡ ys)
+    refuses r v = let a = answers r rs (exactly-told rs t) v in (a, unwritten r a)
+
+    -- a list with its verdict, and the rows
+    refuses-list : (list : Words) (r : Listing) → r ≡ firstOf writeRefused rs (record { verdict = success; list = list })
+        → Answers (r .verdict) rs × ((r .verdict ≡ success → ⊥) → (r .list ≡ noWords) × (zs ≡ ys))
+    refuses-list list r l =
+        let both = answers-list list r l in
+        (both .0, λ f. (both .1 f, unwritten (r .verdict) (both .0) f))
+
+-- ---- the calls
 
 module _ (ys : List Row) (capacity : ℕ) where
   pub set-up-refusals : (r : Verdict) (zs : List Row) → SharesSetUp ys capacity r zs
@@ -41,60 +58,39 @@ module _ (ys : List Row) (capacity : ℕ) where
   unfolding setUpAnswer setUpRows
   set-up-refusals r zs e =
       let rs = setUpRefusals capacity ys in
-      let t = set-up-numbered capacity ys in (
-        answers r rs (exactly rs t) (e .0),
-        λ f. e .1 ∙ unwritten rs t ys _ (λ z. f (e .0 ∙ z)),
-      )
+      refuses rs (telling-numbered rs (set-up-numbered capacity ys)) ys zs _ (e .1) r (e .0)
 
   pub attach-refusals : (port cable : ℕ) (r : Listing) (zs : List Row) → SharesAttach ys capacity port cable r zs
       → Answers (r .verdict) (attachRefusals capacity ys port cable) × ((r .verdict ≡ success → ⊥) → (r .list ≡ noWords) × (zs ≡ ys))
   unfolding attachAnswer attachRows
   attach-refusals port cable r zs e =
       let rs = attachRefusals capacity ys port cable in
-      let t = attach-numbered capacity ys port cable in
-      let v = ap (λ (l : Listing). l .verdict) (e .0) ∙ listing-verdict rs t _ refl in (
-        answers (r .verdict) rs (exactly rs t) v,
-        λ f. (ap (λ (l : Listing). l .list) (e .0) ∙ listing-empty rs t _ (λ z. f (v ∙ z)), e .1 ∙ unwritten rs t ys _ (λ z. f (v ∙ z))),
-      )
+      refuses-list rs (telling-numbered rs (attach-numbered capacity ys port cable)) ys zs _ (e .1) _ r (e .0)
 
   pub advertise-refusals : (port : ℕ) (r : Listing) (zs : List Row) → SharesAdvertise ys capacity port r zs
       → Answers (r .verdict) (useRefusals capacity ys port) × ((r .verdict ≡ success → ⊥) → (r .list ≡ noWords) × (zs ≡ ys))
   unfolding advertiseAnswer advertiseRows
   advertise-refusals port r zs e =
       let rs = useRefusals capacity ys port in
-      let t = use-numbered capacity ys port in
-      let v = ap (λ (l : Listing). l .verdict) (e .0) ∙ listing-verdict rs t _ refl in (
-        answers (r .verdict) rs (exactly rs t) v,
-        λ f. (ap (λ (l : Listing). l .list) (e .0) ∙ listing-empty rs t _ (λ z. f (v ∙ z)), e .1 ∙ unwritten rs t ys _ (λ z. f (v ∙ z))),
-      )
+      refuses-list rs (telling-numbered rs (use-numbered capacity ys port)) ys zs _ (e .1) _ r (e .0)
 
   pub request-refusals : (port word : ℕ) (r : Verdict) (zs : List Row) → SharesRequest ys capacity port word r zs
       → Answers r (requestRefusals capacity ys port word) × ((r ≡ success → ⊥) → zs ≡ ys)
   unfolding requestAnswer requestRows
   request-refusals port word r zs e =
       let rs = requestRefusals capacity ys port word in
-      let t = request-numbered capacity ys port word in (
-        answers r rs (exactly rs t) (e .0),
-        λ f. e .1 ∙ unwritten rs t ys _ (λ z. f (e .0 ∙ z)),
-      )
+      refuses rs (telling-numbered rs (request-numbered capacity ys port word)) ys zs _ (e .1) r (e .0)
 
   pub detach-refusals : (port : ℕ) (r : Verdict) (zs : List Row) → SharesDetach ys capacity port r zs
       → Answers r (useRefusals capacity ys port) × ((r ≡ success → ⊥) → zs ≡ ys)
   unfolding detachAnswer detachRows
   detach-refusals port r zs e =
       let rs = useRefusals capacity ys port in
-      let t = use-numbered capacity ys port in (
-        answers r rs (exactly rs t) (e .0),
-        λ f. e .1 ∙ unwritten rs t ys _ (λ z. f (e .0 ∙ z)),
-      )
+      refuses rs (telling-numbered rs (use-numbered capacity ys port)) ys zs _ (e .1) r (e .0)
 
   pub remaining-refusals : (r : RemainingPower) → SharesRemaining ys capacity r
       → Answers (r .verdict) (remainingRefusals capacity ys) × ((r .verdict ≡ success → ⊥) → r .power ≡ halfWatts 0)
   unfolding remainingAnswer
   remaining-refusals r e =
       let rs = remainingRefusals capacity ys in
-      let t = remaining-numbered capacity ys in
-      let v = ap (λ (x : RemainingPower). x .verdict) e ∙ onto (λ (x : RemainingPower). x .verdict) noPowerLeft rs _ in (
-        answers (r .verdict) rs (exactly rs t) v,
-        λ f. ap (λ (x : RemainingPower). x .power) (e ∙ refused-so noPowerLeft rs (refused rs t (λ z. f (v ∙ z))) _),
-      )
+      answers-power rs (telling-numbered rs (remaining-numbered capacity ys)) _ r e

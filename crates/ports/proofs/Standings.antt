@@ -27,7 +27,7 @@ use Rattle.ports.proofs.Passing.{count-high}
 -- ---- one row more
 
 module _ (fresh : Bool) (s : Standing) (y : Row) (place : ℕ) where
-  more : standing s ≡ true → takenRow fresh s y place ≡ record {
+  pub more : standing s ≡ true → takenRow fresh s y place ≡ record {
     fault = verdictOf (rowRefusals fresh y place);
     count = s .count;
     held = (s .held + y .held .0) % 2 ^ 32;
@@ -35,7 +35,7 @@ module _ (fresh : Bool) (s : Standing) (y : Row) (place : ℕ) where
   unfolding takenRow
   more e = rw e refl
 
-  none-more : standing s ≡ false → takenRow fresh s y place ≡ s
+  pub none-more : standing s ≡ false → takenRow fresh s y place ≡ s
   unfolding takenRow
   none-more e = rw e refl
 
@@ -57,7 +57,7 @@ module _ (fresh : Bool) (s : Standing) (y : Row) (place : ℕ) where
         ap (λ (r : Standing). r .fault) (none-more e)
         ∙ sym (stops-at xs (s .fault) is verdict success (rowRefusals fresh y place) (eqb-false (s .fault .number) 0 e))
 
-row-numbered : (fresh : Bool) (y : Row) (place : ℕ) → numbered (rowRefusals fresh y place) ≡ true
+pub row-numbered : (fresh : Bool) (y : Row) (place : ℕ) → numbered (rowRefusals fresh y place) ≡ true
 row-numbered true y place = refl
 row-numbered false y place = refl
 
