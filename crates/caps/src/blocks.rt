@@ -1,12 +1,10 @@
 // Standard input to standard output, through one block for each. A read asks for all the room of its block. The other
 // block is written when the next line may not fit and when the input has ended, so a write is never small before that.
 ghost use mathlib.Core.Path.{_≡_};
-ghost use mathlib.Core.List.{[], _∷_};
 ghost use Prim.Native.Nat.{_+_, _*_, _≤_, _<_};
 ghost use lib.ListN.{length, take, drop};
-ghost use Rattle.rules.specs.Building.{builtOf};
-ghost use Rattle.caps.specs.Records.{profileAt, listingLine};
 ghost use Rattle.lines.specs.Text.{Appended};
+ghost use Rattle.printed.specs.Printed.{recordLine, endLine};
 ghost use Rattle.caps.specs.Blocks.{Leaves, Kept};
 use crate::Step;
 use crate::Written;
@@ -40,7 +38,7 @@ fn place_for_line(out: &[u8], next: usize) -> Written
 
 fn put_record(input: &[u8], from: usize, out: &mut [u8], at: usize) -> usize
     requires { ⌜ (from + 8 ≤ length (now input)) × (at + 71 ≤ length (now out)) ⌝ }
-    ensures { λ r. ⌜ Appended (now (out .entry)) at (listingLine (builtOf (profileAt (now (input .entry)) from))) (now (out .exit)) r ⌝ }
+    ensures { λ r. ⌜ Appended (now (out .entry)) at (recordLine (now (input .entry)) from) (now (out .exit)) r ⌝ }
 {
     let profile = profile_at(input, from);
     let listing = rules::build(profile);
@@ -50,11 +48,14 @@ fn put_record(input: &[u8], from: usize, out: &mut [u8], at: usize) -> usize
     put_line(out, at, verdict.number, words, list.count)
 }
 
-// "A last record of 1 to 7 bytes prints `9 0`."
-fn put_short(out: &mut [u8], at: usize) -> usize
+// Behind the last whole record: "A last record of 1 to 7 bytes prints `9 0`."
+fn put_end(kept: usize, out: &mut [u8], at: usize) -> usize
     requires { ⌜ at + 71 ≤ length (now out) ⌝ }
-    ensures { λ r. ⌜ Appended (now (out .entry)) at (57 ∷ 32 ∷ 48 ∷ 10 ∷ []) (now (out .exit)) r ⌝ }
+    ensures { λ r. ⌜ Appended (now (out .entry)) at (endLine kept) (now (out .exit)) r ⌝ }
 {
+    if kept == 0 {
+        return at;
+    }
     let list = NO_WORDS;
     let words = list.words;
     put_line(out, at, verdicts::RECORD_SHORT, words, list.count)
@@ -82,15 +83,11 @@ fn put_records(input: &[u8], records: usize, out: &mut [u8], at: usize) -> Writt
 fn finish(kept: usize, out: &mut [u8], next: usize)
     requires { ⌜ (71 ≤ length (now out)) × (next ≤ length (now out)) ⌝ }
 {
-    if kept == 0 {
-        flush(out, next);
-        return;
-    }
     let place = place_for_line(out, next);
     let Written::At(free) = place else {
         return;
     };
-    let end = put_short(out, free);
+    let end = put_end(kept, out, free);
     flush(out, end);
 }
 

@@ -2,7 +2,7 @@
 ghost use mathlib.Core.Path.{_≡_};
 ghost use Prim.Native.Nat.{_+_, _*_, _≤_};
 ghost use lib.ListN.{length};
-ghost use Rattle.caps.specs.Records.{profileAt};
+ghost use Rattle.printed.specs.Records.{profileAt};
 use rules::Profile;
 use steps::HalfWatts;
 

@@ -19,6 +19,9 @@ use Rattle.rules.specs.Profiles.{halfWatts, defaultOf}
 use Rattle.rules.specs.Tables.{baseSlots, progSlots}
 use Rattle.rules.specs.Currents.{builtCurrent, progCurrent}
 use Rattle.rules.specs.Building.{objectFor, builtOf}
+use Rattle.lines.specs.Text.{hexWord}
+use Rattle.printed.specs.Ascii.{ascii}
+use Rattle.printed.specs.Printed.{printedOf}
 use Rattle.requests.specs.Limits.{bitSet, avsTop, avsLimit}
 use Rattle.requests.specs.Answering.{answerOf}
 use Rattle.ports.specs.declared.Row.{Row}
@@ -28,8 +31,10 @@ use Rattle.ports.specs.RuleLists.{rulePps, ruleProfile}
 use Rattle.ports.specs.Requests.{powerOf, heldFor}
 use Rattle.ports.specs.Lending.{setUpAnswer, setUpRows, attachAnswer, attachRows, advertiseAnswer, advertiseRows, requestAnswer, requestRows}
 
--- what a call answers: a list with its verdict, or a verdict alone; and the rows that a sharing call leaves
+-- what the listing program prints; what a call answers: a list with its verdict, or a verdict alone; and the rows that a sharing
+-- call leaves
 pub data Answer : Type 0 where
+  printed : List ℕ → Answer
   listed : Listing → Answer
   judged : Verdict → Answer
   left : List Row → Answer
@@ -86,8 +91,11 @@ at-70 = success-with (0x0001912C ∷ 0x0002D12C ∷ 0x0004B0E9 ∷ 0x000640AF �
 
 abbrev pub table : List Case
 table =
-    -- the listing (36 W)
-    case (built 72 72 3 0 1) (success-with (0x0001912C ∷ 0x0002D12C ∷ 0x0004B0F0 ∷ 0xE003C000 ∷ 0xC8DC323C ∷ 0xC9403230 ∷ 0 ∷ []) 6)
+    -- the listing (36 W): "Input `48 00 48 00 03 00 01 00` prints whole", and the list in it
+    case
+    (printed (printedOf (0x48 ∷ 0x00 ∷ 0x48 ∷ 0x00 ∷ 0x03 ∷ 0x00 ∷ 0x01 ∷ 0x00 ∷ [])))
+    (printed (ascii "0 6 0001912C 0002D12C 0004B0F0 E003C000 C8DC323C C9403230\n"))
+    ∷ case (built 72 72 3 0 1) (success-with (0x0001912C ∷ 0x0002D12C ∷ 0x0004B0F0 ∷ 0xE003C000 ∷ 0xC8DC323C ∷ 0xC9403230 ∷ 0 ∷ []) 6)
     -- M 160, P 80, 5 A, up, no PPS: 300, 300, 267, 200; AVS word E0042CC8
     ∷ case (built 160 80 5 1 0) (success-with (0x0001912C ∷ 0x0002D12C ∷ 0x0004B10B ∷ 0x000640C8 ∷ 0xE0042CC8 ∷ 0 ∷ 0 ∷ []) 5)
     -- M = P = 80, down: 300, 300, 266; AVS 266 and 0
@@ -138,5 +146,5 @@ table =
     ∷ []
 
 pub marked-cases : map given table ≡ map said table
-unfolding firstOf eachPlace bits decodeOf reservedSet outOfBounds over100W mayFollow isFixed5V hasFixed avsDiffers bitSet avsTop avsLimit answerOf sevenTo downOf upOf wordOf defaultOf baseSlots progSlots builtCurrent progCurrent objectFor builtOf together besides emptied presentFor offering holding soundRow rulePps ruleProfile powerOf heldFor setUpAnswer setUpRows attachAnswer attachRows advertiseAnswer advertiseRows requestAnswer requestRows
+unfolding printedOf hexWord firstOf eachPlace bits decodeOf reservedSet outOfBounds over100W mayFollow isFixed5V hasFixed avsDiffers bitSet avsTop avsLimit answerOf sevenTo downOf upOf wordOf defaultOf baseSlots progSlots builtCurrent progCurrent objectFor builtOf together besides emptied presentFor offering holding soundRow rulePps ruleProfile powerOf heldFor setUpAnswer setUpRows attachAnswer attachRows advertiseAnswer advertiseRows requestAnswer requestRows
 marked-cases = refl

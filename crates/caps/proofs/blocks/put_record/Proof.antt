@@ -3,7 +3,7 @@
 use borrow.Author.Needs.{needs}
 use mathlib.Core.Path.{ap, _∙_}
 use Rattle.rules.specs.Building.{builtOf}
-use Rattle.caps.specs.Records.{listingLine}
+use Rattle.printed.specs.Records.{listingLine}
 use Rattle.lines.proofs.Appending.{text-is}
 use Rattle.caps.proofs.blocks.put_record.Statement.{statement}
 use Rattle.caps.proofs.blocks.put_record.Tie as tie
