@@ -1,6 +1,11 @@
 -- `caps::records::profile_at` meets its contract: each byte is read where the definition reads it.
 -- Assumes nothing.
 use borrow.Author.Needs.{needs}
+use mathlib.Core.Path.{ap₂}
+use Prim.Native.Nat.{ℕ}
+use Rattle.rules.specs.declared.Profile.{Profile}
+use Rattle.rules.specs.Profiles.{halfWatts}
+use Rattle.printed.specs.Records.{profileAt}
 use Rattle.caps.proofs.records.profile_at.Statement.{statement}
 use Rattle.caps.proofs.records.profile_at.Tie as tie
 
@@ -55,8 +60,24 @@ add-t27 c = search needs
 shared-slice-read-t29 : tie.Need-shared-slice-read-t29
 shared-slice-read-t29 c = search needs
 
+-- the other bytes are read as they are
+abbrev with-powers : Profile → ℕ → ℕ → Profile
+with-powers q m p =
+    record {
+      max = halfWatts m;
+      present = halfWatts p;
+      cable = q .cable;
+      rounding = q .rounding;
+      pps = q .pps;
+      flags = q .flags;
+    }
+
 returns : tie.Need-returns
-returns c = cc
+returns c =
+    let present = c .before .before .before .before in
+    let max = present .before .before .before in
+    let start = max .before .before .before .before in
+    ap₂ (with-powers (profileAt (start .args .input .now) (start .args .at))) (max .two-bytes .ensures) (present .two-bytes2 .ensures)
 
 pub profile-at-spec : {M : Type 1} → statement M
 profile-at-spec =
