@@ -17,6 +17,9 @@ pub mod Demand3
 pub mod RequestNumbers
 pub mod At15V
 pub mod MarkedCases
+pub mod BuiltLists
+pub mod NoCurrent
+pub mod DueAnswers
 pub mod WrongLibraries
 pub mod FlatContracts
 pub mod FlatOutcomes
