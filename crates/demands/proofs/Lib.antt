@@ -21,6 +21,7 @@ pub mod BuiltLists
 pub mod NoCurrent
 pub mod DueAnswers
 pub mod WrongLibraries
+pub mod WrongInstances
 pub mod FlatContracts
 pub mod FlatOutcomes
 pub mod FlatRefusals

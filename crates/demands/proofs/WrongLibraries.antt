@@ -1,166 +1,58 @@
--- The six wrong libraries of 01 ("What the contracts settle"): no function with such answers meets the contracts. A library here is
--- any function from the arguments to the answer and the rows at exit that the contract allows at every input. The rows are those of
--- the marked cases: capacity 200, two ports of M 130.
+-- The six wrong libraries of 01 ("What the contracts settle"), in general: no library with such answers meets the contracts.
+-- Lists are said of a `Library`, every call of which meets its contract. Sharing is said after every run, of any answer and any rows that
+-- the contract of the next call allows: so of a library with any memory of its own. `WrongInstances` has the rows of the marked cases.
 -- Assumes nothing.
-use mathlib.Core.Path.{_≡_, refl, sym, ap, _∙_}
-use mathlib.Core.List.{List, [], _∷_}
-use Prim.Native.Nat.{ℕ}
+use mathlib.Core.Path.{_≡_, refl, sym, ap, _∙_, subst}
+use mathlib.Core.Bool.{false, _||_, true≢false}
+use mathlib.Core.List.{List, _∷_}
+use Prim.Native.Nat.{ℕ, _-_, _≤_, _<_}
 use native.Mathlib.Omega.{arith}
-use lib.ListN.{getD}
+use lib.Dec.{eqb}
+use lib.ListN.{length}
+use borrow.Author.Tests.{not-false}
 use Rattle.verdicts.specs.declared.Verdict.{Verdict}
-use Rattle.verdicts.specs.Refusals.{firstOf, eachPlace, success}
-use Rattle.steps.specs.Rounding.{downOf, upOf}
-use Rattle.objects.specs.Bits.{bits}
-use Rattle.objects.specs.Decode.{decodeOf, reservedSet}
-use Rattle.objects.specs.Encode.{wordOf}
+use Rattle.verdicts.specs.Refusals.{success}
+use Rattle.verdicts.proofs.First.{NoneApply, all-missed}
+use Rattle.steps.proofs.RangeLaws.{inside}
 use Rattle.lists.specs.declared.Words.{Words}
 use Rattle.lists.specs.declared.Listing.{Listing}
-use Rattle.lists.specs.ObjectRules.{outOfBounds, over100W, mayFollow}
-use Rattle.lists.specs.Shape.{isFixed5V, hasFixed, avsDiffers, shapeOf}
-use Rattle.lists.specs.Seven.{sevenTo}
+use Rattle.lists.specs.Reading.{readOf}
+use Rattle.lists.specs.Writing.{writeOf}
 use Rattle.rules.specs.declared.Profile.{Profile}
-use Rattle.rules.specs.Profiles.{halfWatts}
-use Rattle.rules.specs.Tables.{baseSlots, progSlots}
-use Rattle.rules.specs.Currents.{builtCurrent, progCurrent}
-use Rattle.rules.specs.Building.{objectFor, builtOf}
-use Rattle.requests.specs.Limits.{bitSet, avsTop, avsLimit}
-use Rattle.requests.specs.Answering.{answerOf}
+use Rattle.rules.specs.declared.Profiled.{Profiled}
+use Rattle.rules.specs.Profiles.{halfWatts, badCable, buildRefusals, defaults, defaultRefusals, defaultOf, profileRefused}
+use Rattle.rules.specs.Building.{builtCount, builtWords}
+use Rattle.rules.proofs.Builds.{build-clear}
+use Rattle.flat.specs.declared.FlatObjects.{FlatObjects}
+use Rattle.flat.specs.declared.FlatReading.{FlatReading}
 use Rattle.ports.specs.declared.Row.{Row}
 use Rattle.ports.specs.declared.RemainingPower.{RemainingPower}
-use Rattle.ports.specs.Rows.{noRow, together, besides, emptied, presentFor, offering, holding}
-use Rattle.ports.specs.Soundness.{soundRow}
-use Rattle.ports.specs.RuleLists.{rulePps, ruleProfile}
-use Rattle.ports.specs.Requests.{powerOf, heldFor}
-use Rattle.ports.specs.Lending.{setUpAnswer, setUpRows, attachAnswer, attachRows, advertiseAnswer, advertiseRows, requestAnswer, requestRows, detachAnswer, detachRows, remainingAnswer}
+use Rattle.ports.specs.Rows.{portRow, together}
+use Rattle.ports.specs.Refusing.{setUpRefusals}
+use Rattle.ports.proofs.Sound.{either-cable, cable-not-0}
+use Rattle.ports.proofs.Sums.{others-at-most}
 use Rattle.board.specs.Promises.{SharesSetUp, SharesAttach, SharesAdvertise, SharesRequest, SharesDetach, SharesRemaining}
-use Rattle.demands.proofs.Contracts.{ShapeAnswers, BuildAnswers, AnswerAnswers}
-use Rattle.demands.proofs.History.{Run, attached, requested}
-use Rattle.demands.proofs.MarkedCases.{port, two, fixed}
+use Rattle.demands.proofs.FlatContracts.{ArinDefaultAnswers, ArinBuildAnswers, ArinCheckAnswers, ArinShapeAnswers, ArinReadAnswers, ArinWriteAnswers, ArinAnswerAnswers}
+use Rattle.demands.proofs.SharingRefusals.{set-up-refusals}
+use Rattle.demands.proofs.FlatRefusals.{arin-default-refusals, arin-build-refusals, arin-shape-refusals, arin-answer-refusals}
+use Rattle.demands.proofs.RoundTrips.{read-then-write}
+use Rattle.demands.proofs.FlatRoundTrips.{arin-read-then-write}
+use Rattle.demands.proofs.PowerRules.{built-passes, built-returns}
+use Rattle.demands.proofs.BuiltLists.{BuiltFor, for-shaped, for-typed, for-past-5-V}
+use Rattle.demands.proofs.NoCurrent.{noCurrent, no-current-clear, no-current-allowed, no-current-holds-15}
+use Rattle.demands.proofs.History.{Known, empty, figures, smaller, newFigure, maxOf, known, IsAttached, CanAttach, Event, attached, advertised, requested, detached, Step, Run}
+use Rattle.demands.proofs.Demand3.{demand-3}
+use Rattle.demands.proofs.DueAnswers.{ToAccept, due, verdictIn, listIn, Same, told, last-list, figure-from-15, row-stays, due-answer, accepted-exactly}
 
--- ---- what the contracts say at these rows, by computation
-
--- both ports empty; port 1 attached; port 1 holds 130; both attached
-abbrev none-attached : List Row
-none-attached = two (port 0 0 15) (port 0 0 15)
-
-abbrev one-attached : List Row
-one-attached = two (port 5 130 15) (port 0 0 15)
-
-abbrev one-holds : List Row
-one-holds = two (port 5 130 130) (port 0 0 15)
-
-abbrev both-attached : List Row
-both-attached = two (port 5 130 130) (port 5 70 15)
-
--- 36 W, the listing of 01
-abbrev listing : Profile
-listing = record { max = halfWatts 72; present = halfWatts 72; cable = 3; rounding = 0; pps = 1; flags = 0 }
-
-abbrev listed : Words
-listed = record { words = 0x0001912C ∷ 0x0002D12C ∷ 0x0004B0F0 ∷ 0xE003C000 ∷ 0xC8DC323C ∷ 0xC9403230 ∷ 0 ∷ []; count = 6 }
-
-abbrev list-130 : Words
-list-130 = record { words = 0x0001912C ∷ 0x0002D12C ∷ 0x0004B12C ∷ 0x00064145 ∷ 0xE004B145 ∷ 0 ∷ 0 ∷ []; count = 5 }
-
-abbrev list-70 : Words
-list-70 = record { words = 0x0001912C ∷ 0x0002D12C ∷ 0x0004B0E9 ∷ 0x000640AF ∷ 0xE003A4AF ∷ 0 ∷ 0 ∷ []; count = 5 }
-
-built : builtOf listing ≡ record { verdict = success; list = listed }
-unfolding firstOf eachPlace bits wordOf sevenTo downOf upOf baseSlots progSlots builtCurrent progCurrent objectFor builtOf
-built = refl
-
-shaped : shapeOf listed ≡ success
-unfolding firstOf eachPlace bits decodeOf reservedSet outOfBounds over100W mayFollow isFixed5V hasFixed avsDiffers shapeOf
-shaped = refl
-
-answered : answerOf listed (fixed 2 300) ≡ success
-unfolding firstOf eachPlace bits decodeOf reservedSet outOfBounds over100W mayFollow isFixed5V hasFixed avsDiffers bitSet avsTop avsLimit answerOf
-answered = refl
-
-set-up-then : SharesSetUp none-attached 200 success none-attached
-unfolding firstOf eachPlace emptied setUpAnswer setUpRows
-set-up-then = (refl, refl)
-
-attach-then : SharesAttach none-attached 200 1 5 (record { verdict = success; list = list-130 }) one-attached
-unfolding firstOf eachPlace bits wordOf sevenTo downOf upOf baseSlots progSlots builtCurrent progCurrent objectFor builtOf together besides presentFor offering soundRow rulePps ruleProfile attachAnswer attachRows
-attach-then = (refl, refl)
-
-request-then : SharesRequest one-attached 200 1 (fixed 4 325) success one-holds
-unfolding firstOf eachPlace bits decodeOf reservedSet outOfBounds over100W mayFollow isFixed5V hasFixed avsDiffers bitSet avsTop avsLimit sevenTo downOf upOf wordOf baseSlots progSlots builtCurrent progCurrent objectFor builtOf together besides holding soundRow rulePps ruleProfile powerOf heldFor requestAnswer requestRows
-request-then = (refl, refl)
-
-attach-2-then : SharesAttach one-holds 200 2 5 (record { verdict = success; list = list-70 }) both-attached
-unfolding firstOf eachPlace bits wordOf sevenTo downOf upOf baseSlots progSlots builtCurrent progCurrent objectFor builtOf together besides presentFor offering soundRow rulePps ruleProfile attachAnswer attachRows
-attach-2-then = (refl, refl)
-
-advertise-then : SharesAdvertise one-holds 200 1 (record { verdict = success; list = list-130 }) one-holds
-unfolding firstOf eachPlace bits wordOf sevenTo downOf upOf baseSlots progSlots builtCurrent progCurrent objectFor builtOf together besides presentFor offering soundRow rulePps ruleProfile advertiseAnswer advertiseRows
-advertise-then = (refl, refl)
-
-detach-then : SharesDetach one-holds 200 1 success none-attached
-unfolding firstOf eachPlace together emptied soundRow detachAnswer detachRows
-detach-then = (refl, refl)
-
-remaining-then : SharesRemaining one-holds 200 (record { verdict = success; power = halfWatts 55 })
-unfolding firstOf eachPlace together soundRow remainingAnswer
-remaining-then = refl
-
--- two answers that one contract allows are the same
-only : {R : Type 0} {x r s : R} → r ≡ x → s ≡ x → r ≡ s
-only e f = e ∙ sym f
-
--- ---- what is looked at
-
-abbrev verdict-of : Listing → Verdict
-verdict-of r = r .verdict
-
-abbrev count-of : Listing → ℕ
-count-of r = r .list .count
-
-abbrev third-word : Listing → ℕ
-third-word r = getD (r .list .words) 2 0
-
-abbrev first-held : List Row → ℕ
-first-held ys = getD ys 0 noRow .held .0
-
-abbrev first-cable : List Row → ℕ
-first-cable ys = getD ys 0 noRow .cable
-
-abbrev second-cable : List Row → ℕ
-second-cable ys = getD ys 1 noRow .cable
-
--- ---- 5: "one that serves the first call of a run and afterwards only nods": whatever memory the library has of its own
-
--- a run: set-up, port 1 is attached, and takes its power
-pub first-calls : Run 200 none-attached
-    (requested 1 (fixed 4 325) success ∷ attached 1 5 (record { verdict = success; list = list-130 }) ∷ []) one-holds
-first-calls = record {
-  rows = one-attached;
-  before = record {
-    rows = none-attached;
-    before = record { answer = success; said = set-up-then; accepted = refl };
-    call = attach-then;
-  };
-  call = request-then;
-}
-
--- no answer to the next call that its contract allows is a nod: neither with the list that the first port got, nor with rows that stay
-module _ (r : Listing) (zs : List Row) (e : SharesAttach one-holds 200 2 5 r zs) where
-  pub no-old-list : r ≡ record { verdict = success; list = list-130 } → ⊥
-  no-old-list q =
-      let z : _≡_ {A = ℕ} 0x0004B0E9 0x0004B12C = ap third-word (sym (only (e .0) (attach-2-then .0)) ∙ q) in
-      absurd (omega (arith, z))
-
-  pub no-old-rows : zs ≡ one-holds → ⊥
-  no-old-rows q =
-      let z : _≡_ {A = ℕ} 5 0 = ap second-cable (sym (only (e .1) (attach-2-then .1)) ∙ q) in
-      absurd (omega (arith, z))
-
--- ---- a library of calls that meet their contracts
+-- ---- a library: every call under its C name; it meets its contracts where each call does, for every input
 
 pub record Library : Type 0 where
-  pub shape : Words → Verdict
+  pub default : ℕ → Profiled
   pub build : Profile → Listing
+  pub check : Profile → Words → Verdict
+  pub shape : Words → Verdict
+  pub read : Words → FlatReading
+  pub write : FlatObjects → Listing
   pub answer : Words → ℕ → Verdict
   pub set-up : List Row → ℕ → Verdict × List Row
   pub attach : List Row → ℕ → ℕ → ℕ → Listing × List Row
@@ -170,9 +62,13 @@ pub record Library : Type 0 where
   pub remaining : List Row → ℕ → RemainingPower
 
 pub record Meets (l : Library) : Type 0 where
-  pub shapes : (w : Words) → ShapeAnswers w (l .shape w)
-  pub builds : (p : Profile) → BuildAnswers p (l .build p)
-  pub answers : (w : Words) (word : ℕ) → AnswerAnswers w word (l .answer w word)
+  pub defaults : (m : ℕ) → ArinDefaultAnswers m (l .default m)
+  pub builds : (p : Profile) → ArinBuildAnswers p (l .build p)
+  pub checks : (p : Profile) (w : Words) → ArinCheckAnswers p w (l .check p w)
+  pub shapes : (w : Words) → ArinShapeAnswers w (l .shape w)
+  pub reads : (w : Words) → ArinReadAnswers w (l .read w)
+  pub writes : (f : FlatObjects) → ArinWriteAnswers f (l .write f)
+  pub answers : (w : Words) (word : ℕ) → ArinAnswerAnswers w word (l .answer w word)
   pub sets-up : (ys : List Row) (capacity : ℕ) → SharesSetUp ys capacity (l .set-up ys capacity .0) (l .set-up ys capacity .1)
   pub attaches : (ys : List Row) (capacity port cable : ℕ) → SharesAttach ys capacity port cable (l .attach ys capacity port cable .0)
       (l .attach ys capacity port cable .1)
@@ -183,83 +79,195 @@ pub record Meets (l : Library) : Type 0 where
   pub detaches : (ys : List Row) (capacity port : ℕ) → SharesDetach ys capacity port (l .detach ys capacity port .0) (l .detach ys capacity port .1)
   pub remains : (ys : List Row) (capacity : ℕ) → SharesRemaining ys capacity (l .remaining ys capacity)
 
+-- ---- on lists, and set-up
+
 module _ (l : Library) (m : Meets l) where
-  -- ---- 1: "a library that refuses everything": no call of it may refuse every input
+  -- ---- 1: "a library that refuses everything (shut out by demands 1 and 2 ..)". What no refusal applies to is accepted: each M of 1 to 200
+  -- has a default profile, each profile without a refusal is built, and every other call on lists takes what is built
 
-  pub shape-accepts : ((w : Words) → l .shape w ≡ success → ⊥) → ⊥
-  shape-accepts f = f listed (m .shapes listed ∙ shaped)
+  pub default-given : (n : ℕ) → 1 ≤ n → n ≤ 200 → l .default n .verdict ≡ success
+  default-given n low high = arin-default-refusals n (l .default n) (m .defaults n) .0 .0 .1 (inside 1 200 n low high, tt)
 
-  pub build-accepts : ((p : Profile) → l .build p .verdict ≡ success → ⊥) → ⊥
-  build-accepts f = f listing (ap verdict-of (m .builds listing ∙ built))
+  pub set-up-given : (ys : List Row) (capacity : ℕ) → NoneApply (setUpRefusals capacity ys) → l .set-up ys capacity .0 ≡ success
+  set-up-given ys capacity clear =
+      set-up-refusals ys capacity (l .set-up ys capacity .0) (l .set-up ys capacity .1) (m .sets-up ys capacity) .0 .0 .1 clear
 
-  pub answer-accepts : ((w : Words) (word : ℕ) → l .answer w word ≡ success → ⊥) → ⊥
-  answer-accepts f = f listed (fixed 2 300) (m .answers listed (fixed 2 300) ∙ answered)
+  module _ (p : Profile) (clear : NoneApply (buildRefusals p)) where
+    abbrev built : Words
+    built = l .build p .list
 
-  pub set-up-accepts : ((ys : List Row) (capacity : ℕ) → l .set-up ys capacity .0 ≡ success → ⊥) → ⊥
-  set-up-accepts f = f none-attached 200 (only (m .sets-up none-attached 200 .0) (set-up-then .0))
+    pub list-built : l .build p .verdict ≡ success
+    list-built = arin-build-refusals p (l .build p) (m .builds p) .0 .0 .1 clear
 
-  pub advertise-accepts : ((ys : List Row) (capacity port : ℕ) → l .advertise ys capacity port .0 .verdict ≡ success → ⊥) → ⊥
-  advertise-accepts f = f one-holds 200 1 (ap verdict-of (only (m .advertises one-holds 200 1 .0) (advertise-then .0)))
+    list-is : built ≡ builtWords p
+    list-is = ap (λ (r : Listing). r .list) (m .builds p ∙ build-clear p clear)
 
-  pub detach-accepts : ((ys : List Row) (capacity port : ℕ) → l .detach ys capacity port .0 ≡ success → ⊥) → ⊥
-  detach-accepts f = f one-holds 200 1 (only (m .detaches one-holds 200 1 .0) (detach-then .0))
+    built-for : BuiltFor (p .max .0) built
+    built-for = record { profile = p; max-is = refl; passes = clear; list-is = list-is }
 
-  pub remaining-accepts : ((ys : List Row) (capacity : ℕ) → l .remaining ys capacity .verdict ≡ success → ⊥) → ⊥
-  remaining-accepts f = f one-holds 200 (ap (λ (r : RemainingPower). r .verdict) (only (m .remains one-holds 200) remaining-then))
+    pub built-shaped : l .shape built ≡ success
+    built-shaped = arin-shape-refusals built (l .shape built) (m .shapes built) .0 .1 (for-shaped (p .max .0) built built-for)
 
-  -- ---- 2: "one that attaches no port or accepts no shared request"
+    pub built-checked : l .check p built ≡ success
+    built-checked = built-passes p (l .build p) (m .builds p) list-built (l .check p built) (m .checks p built)
 
-  pub attach-accepts : ((ys : List Row) (capacity port cable : ℕ) → l .attach ys capacity port cable .0 .verdict ≡ success → ⊥) → ⊥
-  attach-accepts f = f none-attached 200 1 5 (ap verdict-of (only (m .attaches none-attached 200 1 5 .0) (attach-then .0)))
+    read-and-written : (l .read built .verdict ≡ success) × (l .write (l .read built .list) ≡ l .build p)
+    read-and-written =
+        let typed = for-typed (p .max .0) built built-for in
+        let shaped : ArinShapeAnswers built success = subst (ArinShapeAnswers built) built-shaped (m .shapes built) in
+        let objects = l .read built .list in
+        let flat = arin-read-then-write built typed shaped (l .read built) (m .reads built) (l .write objects) (m .writes objects) in
+        let words = writeOf (readOf built .list) in (
+          flat .0,
+          flat .1
+              ∙ sym (read-then-write built typed shaped (readOf built) refl words refl .1)
+              ∙ built-returns p (l .build p) (m .builds p) list-built (readOf built) refl words refl .1,
+        )
 
-  pub request-accepts : ((ys : List Row) (capacity port word : ℕ) → l .request ys capacity port word .0 ≡ success → ⊥) → ⊥
-  request-accepts f = f one-attached 200 1 (fixed 4 325) (only (m .requests one-attached 200 1 (fixed 4 325) .0) (request-then .0))
+    pub built-read : l .read built .verdict ≡ success
+    built-read = read-and-written .0
 
-  -- ---- 3: "one that returns the 5 V list each time": a list of one word
+    pub built-written : l .write (l .read built .list) ≡ l .build p
+    built-written = read-and-written .1
 
-  pub build-past-5-V : ((p : Profile) → l .build p .list .count ≡ 1) → ⊥
-  build-past-5-V f = let z : _≡_ {A = ℕ} 6 1 = sym (ap count-of (m .builds listing ∙ built)) ∙ f listing in absurd (omega (arith, z))
+    pub built-answered : l .answer built noCurrent ≡ success
+    built-answered =
+        arin-answer-refusals built noCurrent (l .answer built noCurrent) (m .answers built noCurrent) .0 .1
+        (no-current-clear built (for-shaped (p .max .0) built built-for))
 
-  pub attach-past-5-V : ((ys : List Row) (capacity port cable : ℕ) → l .attach ys capacity port cable .0 .list .count ≡ 1) → ⊥
-  attach-past-5-V f =
-      let z : _≡_ {A = ℕ} 5 1 = sym (ap count-of (only (m .attaches none-attached 200 1 5 .0) (attach-then .0))) ∙ f none-attached 200 1 5 in
-      absurd (omega (arith, z))
+    -- ---- 3: "one that returns the 5 V list each time (demand 2, the rule list)"
 
-  pub advertise-past-5-V : ((ys : List Row) (capacity port : ℕ) → l .advertise ys capacity port .0 .list .count ≡ 1) → ⊥
-  advertise-past-5-V f =
-      let z : _≡_ {A = ℕ} 5 1 = sym (ap count-of (only (m .advertises one-holds 200 1 .0) (advertise-then .0))) ∙ f one-holds 200 1 in
-      absurd (omega (arith, z))
+    pub built-past-5-V : 30 < p .max .0 → 1 < l .build p .list .count
+    built-past-5-V = for-past-5-V (p .max .0) built built-for
 
-  -- ---- 4: "one that ignores requests or never changes a row"
+    -- ---- 6: "one with invented list counts .. (demands 2 ..)": the count is that of the tables
 
-  pub request-changes : ((ys : List Row) (capacity port word : ℕ) → l .request ys capacity port word .1 ≡ ys) → ⊥
-  request-changes f =
-      let z : _≡_ {A = ℕ} 130 15 = ap first-held (sym (only (m .requests one-attached 200 1 (fixed 4 325) .1) (request-then .1))
-      ∙ f one-attached 200 1 (fixed 4 325)) in
-      absurd (omega (arith, z))
+    pub no-other-built-count : (n : ℕ) → (n ≡ builtCount p → ⊥) → l .build p .list .count ≡ n → ⊥
+    no-other-built-count n f e = f (sym e ∙ ap (λ (w : Words). w .count) list-is)
 
-  pub attach-changes : ((ys : List Row) (capacity port cable : ℕ) → l .attach ys capacity port cable .1 ≡ ys) → ⊥
-  attach-changes f =
-      let z : _≡_ {A = ℕ} 5 0 = ap first-cable (sym (only (m .attaches none-attached 200 1 5 .1) (attach-then .1)) ∙ f none-attached 200 1 5) in
-      absurd (omega (arith, z))
+  -- 1, from M alone to a list
+  pub default-builds : (n : ℕ) → 1 ≤ n → n ≤ 200 → l .build (l .default n .profile) .verdict ≡ success
+  unfolding defaultOf
+  default-builds n low high =
+      let given = inside 1 200 n low high in
+      let e = m .defaults n ∙ all-missed profileRefused _ (defaultRefusals (halfWatts n)) (given, tt) in
+      list-built (l .default n .profile)
+      (subst (λ (r : Profiled). NoneApply (buildRefusals (r .profile))) (sym e)
+      (given, (inside 1 n n low (omega arith), (refl, (refl, (refl, (refl, tt)))))))
 
-  pub detach-changes : ((ys : List Row) (capacity port : ℕ) → l .detach ys capacity port .1 ≡ ys) → ⊥
-  detach-changes f =
-      let z : _≡_ {A = ℕ} 0 5 = ap first-cable (sym (only (m .detaches one-holds 200 1 .1) (detach-then .1)) ∙ f one-holds 200 1) in
-      absurd (omega (arith, z))
+-- ---- on sharing: `Step` at a library's own answers is what `Meets` says
 
-  -- ---- 5, for a library without a memory
+cable-in-use : (cable : ℕ) → badCable cable ≡ false → eqb cable 0 ≡ false
+cable-in-use cable e = cable-not-0 cable (either-cable cable (not-false (eqb cable 3 || eqb cable 5) e))
 
-  pub no-same-list : l .attach one-holds 200 2 5 .0 ≡ record { verdict = success; list = list-130 } → ⊥
-  no-same-list = no-old-list _ _ (m .attaches one-holds 200 2 5)
+module _ (capacity : ℕ) (start : List Row) (es : List Event) (ys : List Row) (run : Run capacity start es ys) where
+  abbrev h : ℕ → Known
+  h = known capacity start es
 
-  pub no-mere-nod : l .attach one-holds 200 2 5 .1 ≡ one-holds → ⊥
-  no-mere-nod = no-old-rows _ _ (m .attaches one-holds 200 2 5)
+  abbrev count : ℕ
+  count = length start
 
-  -- ---- 6: "one with invented list counts or remaining power": any other count, any other power
+  -- ---- 1 and 2: ".. and 36 in demand 3"; "one that attaches no port or accepts no shared request (demand 1)". What is to be accepted is
+  -- accepted: a port that can be attached is attached, a request that the list allows and the power is there for is accepted ..
 
-  pub no-invented-count : (n : ℕ) → (n ≡ 5 → ⊥) → l .attach none-attached 200 1 5 .0 .list .count ≡ n → ⊥
-  no-invented-count n f e = f (sym e ∙ ap count-of (only (m .attaches none-attached 200 1 5 .0) (attach-then .0)))
+  pub nothing-refused : (e : Event) (zs : List Row) → Step capacity ys e zs → ToAccept capacity count h e → verdictIn e ≡ success
+  nothing-refused e zs s = accepted-exactly capacity start es ys run e zs s .1
 
-  pub no-invented-power : (n : ℕ) → (n ≡ 55 → ⊥) → l .remaining one-holds 200 .power .0 ≡ n → ⊥
-  no-invented-power n f e = f (sym e ∙ ap (λ (r : RemainingPower). r .power .0) (only (m .remains one-holds 200) remaining-then))
+  -- .. and every attached port has such a request
+  pub no-current-accepted : (port : ℕ) (r : Verdict) (zs : List Row) → SharesRequest ys capacity port noCurrent r zs → IsAttached count h port
+      → r ≡ success
+  no-current-accepted port r zs s a =
+      let list = h (port - 1) .list in
+      let shaped = for-shaped (maxOf start (port - 1)) list (last-list capacity start es ys run port a) in
+      nothing-refused (requested port noCurrent r) zs s (record {
+        in-use = a;
+        allowed = no-current-allowed list shaped;
+        power-there = omega (
+          arith,
+          no-current-holds-15 list shaped (h (port - 1) .present),
+          figure-from-15 capacity start es ys run port a,
+          others-at-most (port - 1) (figures h) count (omega (arith, a .from-1, a .to-count)),
+          demand-3 capacity start es ys run .within-capacity,
+        );
+      })
+
+  -- ---- what one call more tells of a port
+
+  module _ (e : Event) (zs : List Row) (s : Step capacity ys e zs) (port : ℕ) (p : Known) (t : known capacity start (e ∷ es) (port - 1) ≡ p) where
+    told-past-5-V : 1 ≤ port → port ≤ count → eqb (p .cable) 0 ≡ false → 30 < maxOf start (port - 1) → 1 < p .list .count
+    told-past-5-V low high cabled big =
+        subst (λ (q : Known). 1 < q .list .count) t
+        (for-past-5-V (maxOf start (port - 1)) (known capacity start (e ∷ es) (port - 1) .list)
+        (last-list capacity start (e ∷ es) zs (record { rows = ys; before = run; call = s }) port
+        (record { from-1 = low; to-count = high; cabled = ap (λ (q : Known). eqb (q .cable) 0) t ∙ cabled })) big)
+
+    told-same : 1 ≤ port → port ≤ count → portRow zs port ≡ portRow ys port → Same (h (port - 1)) p
+    told-same low high stays =
+        subst (Same (h (port - 1))) t (row-stays capacity start es ys run e zs s (port - 1) (omega (arith, low, high)) stays)
+
+  -- ---- 3: "one that returns the 5 V list each time (.. the rule list)"
+
+  pub attached-past-5-V : (port cable : ℕ) (r : Listing) (zs : List Row) → SharesAttach ys capacity port cable r zs → CanAttach count h port cable
+      → 30 < maxOf start (port - 1) → 1 < r .list .count
+  attached-past-5-V port cable r zs s a =
+      told-past-5-V (attached port cable r) zs s port _ (told (r .verdict) port _ h (nothing-refused (attached port cable r) zs s a))
+      (a .from-1) (a .to-count) (cable-in-use cable (a .good-cable))
+
+  pub advertised-past-5-V : (port : ℕ) (r : Listing) (zs : List Row) → SharesAdvertise ys capacity port r zs → IsAttached count h port
+      → 30 < maxOf start (port - 1) → 1 < r .list .count
+  advertised-past-5-V port r zs s a =
+      told-past-5-V (advertised port r) zs s port _ (told (r .verdict) port _ h (nothing-refused (advertised port r) zs s a))
+      (a .from-1) (a .to-count) (a .cabled)
+
+  -- ---- 4: "one that ignores requests or never changes a row (demand 3, the next list)". A request that is accepted with another figure
+  -- changes the row of its port; so does each attach, each detach, and an advertise at another P
+
+  pub request-changes-row : (port word : ℕ) (r : Verdict) (zs : List Row) → SharesRequest ys capacity port word r zs → r ≡ success
+      → (newFigure h port word ≡ h (port - 1) .figure → ⊥) → portRow zs port ≡ portRow ys port → ⊥
+  request-changes-row port word r zs s q f stays =
+      let a = accepted-exactly capacity start es ys run (requested port word r) zs s .0 q .in-use in
+      f (told-same (requested port word r) zs s port _ (told r port _ h q) (a .from-1) (a .to-count) stays .figure)
+
+  pub attach-changes-row : (port cable : ℕ) (r : Listing) (zs : List Row) → SharesAttach ys capacity port cable r zs → CanAttach count h port cable
+      → portRow zs port ≡ portRow ys port → ⊥
+  attach-changes-row port cable r zs s a stays =
+      let t = told (r .verdict) port _ h (nothing-refused (attached port cable r) zs s a) in
+      let same = told-same (attached port cable r) zs s port _ t (a .from-1) (a .to-count) stays in
+      true≢false (sym (a .free) ∙ ap (λ (n : ℕ). eqb n 0) (sym (same .cable)) ∙ cable-in-use cable (a .good-cable))
+
+  pub advertise-changes-row : (port : ℕ) (r : Listing) (zs : List Row) → SharesAdvertise ys capacity port r zs → IsAttached count h port
+      → (smaller capacity count (maxOf start) h port ≡ h (port - 1) .present → ⊥) → portRow zs port ≡ portRow ys port → ⊥
+  advertise-changes-row port r zs s a f stays =
+      let t = told (r .verdict) port _ h (nothing-refused (advertised port r) zs s a) in
+      f (told-same (advertised port r) zs s port _ t (a .from-1) (a .to-count) stays .present (a .cabled))
+
+  pub detach-changes-row : (port : ℕ) (r : Verdict) (zs : List Row) → SharesDetach ys capacity port r zs → IsAttached count h port
+      → portRow zs port ≡ portRow ys port → ⊥
+  detach-changes-row port r zs s a stays =
+      let t = told r port empty h (nothing-refused (detached port r) zs s a) in
+      let same = told-same (detached port r) zs s port empty t (a .from-1) (a .to-count) stays in
+      true≢false (ap (λ (n : ℕ). eqb n 0) (same .cable) ∙ a .cabled)
+
+  module _ (e : Event) (zs : List Row) (s : Step capacity ys e zs) where
+    -- ---- 5: "one that serves the first call of a run and afterwards only nods (demand 3)". It accepts nothing that is to be refused; what
+    -- it accepts has no list but the next one; and rows change as in 4
+
+    pub no-nod : (ToAccept capacity count h e → ⊥) → verdictIn e ≡ success → ⊥
+    no-nod f q = f (accepted-exactly capacity start es ys run e zs s .0 q)
+
+    module _ (a : ToAccept capacity count h e) where
+      as-due : listIn e ≡ listIn (due capacity start h e)
+      as-due = ap listIn (due-answer capacity start es ys run e zs s a)
+
+      pub no-other-list : (old : Words) → (old ≡ listIn (due capacity start h e) → ⊥) → listIn e ≡ old → ⊥
+      no-other-list old f q = f (sym q ∙ as-due)
+
+      -- ---- 6: "one with invented list counts or remaining power (demands .. 3)": any count but that of the rule list ..
+
+      pub no-other-count : (n : ℕ) → (n ≡ listIn (due capacity start h e) .count → ⊥) → listIn e .count ≡ n → ⊥
+      no-other-count n f q = f (sym q ∙ ap (λ (w : Words). w .count) as-due)
+
+  -- .. any power but capacity less the figures
+  pub no-other-power : (r : RemainingPower) → SharesRemaining ys capacity r → (n : ℕ) → (n ≡ capacity - together (figures h) count → ⊥)
+      → r .power .0 ≡ n → ⊥
+  no-other-power r s n f q = f (sym q ∙ ap (λ (x : RemainingPower). x .power .0) (demand-3 capacity start es ys run .remaining-power r s))
