@@ -22,6 +22,7 @@ pub mod NoCurrent
 pub mod DueAnswers
 pub mod WrongLibraries
 pub mod WrongInstances
+pub mod RightLibrary
 pub mod FlatContracts
 pub mod FlatOutcomes
 pub mod FlatRefusals
