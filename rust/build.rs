@@ -7,7 +7,7 @@ use std::fmt::Write;
 use std::path::{Path, PathBuf};
 use std::{env, fs};
 
-/// The crates of the library, as `crates.txt` has them. `demands` has theorems alone, and the rest are programs.
+/// The crates of the library, as `crates.txt` has them. `demands` and `printed` have no code, and the rest are programs.
 const LIBRARY: [&str; 9] = [
     "verdicts", "steps", "objects", "lists", "rules", "requests", "ports", "flat", "board",
 ];

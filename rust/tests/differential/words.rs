@@ -6,7 +6,8 @@ use crate::common::run::Run;
 use crate::objects_made;
 use arinduleu::flat::{flatten, raise, Raised};
 use arinduleu::objects::{
-    avs_word, decode, encode, fixed_word, pps_word, reserved_bit_set, Decoded, Encoded,
+    avs_word, decode, encode, fixed_word, kind_bits, pps_word, reserved_bit_set, Decoded, Encoded,
+    BITS_AVS, BITS_BATTERY, BITS_EPR_AVS, BITS_FIXED, BITS_PPS, BITS_UNASSIGNED, BITS_VARIABLE,
 };
 use arinduleu::steps::{Ma10, Ma50, Mv100, Mv50};
 use model::{FlatObject, Object};
@@ -15,6 +16,17 @@ fn decoded(word: u32) -> Option<Object> {
     match decode(word) {
         Decoded::Known(object) => Some(object.model()),
         Decoded::NotAllowed => None,
+    }
+}
+
+/// The bits of a kind that the model knows.
+fn bits_of(object: Object) -> u32 {
+    match object {
+        Object::Fixed { .. } => BITS_FIXED,
+        Object::Battery { .. } => BITS_BATTERY,
+        Object::Variable { .. } => BITS_VARIABLE,
+        Object::Pps { .. } => BITS_PPS,
+        Object::Avs { .. } => BITS_AVS,
     }
 }
 
@@ -63,6 +75,17 @@ fn words_and_objects() {
         let word = objects_made::word(&mut run.random);
         let known = model::decode(word);
         run.same("decode", &word, decoded(word), known);
+        let refused = [BITS_EPR_AVS, BITS_UNASSIGNED];
+        let bits = kind_bits(word);
+        run.same(
+            "kind_bits",
+            &word,
+            match known {
+                Some(object) => bits == bits_of(object),
+                None => refused.contains(&bits),
+            },
+            true,
+        );
         run.reached(if known.is_some() {
             "known"
         } else {

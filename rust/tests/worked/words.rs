@@ -1,7 +1,7 @@
 //! One word: the object it says, its reserved bits, and the word that an object makes.
 
 use crate::making::{avs, battery, fixed, pps, variable};
-use arinduleu::objects::{decode, encode, reserved_bit_set, Decoded, Encoded, Object};
+use arinduleu::objects::{decode, encode, kind_bits, reserved_bit_set, Decoded, Encoded, Object};
 
 /// Each kind twice: fields that all differ, and every bit below the kind set, so that a field that took a bit too many
 /// or too few would show.
@@ -43,6 +43,24 @@ fn kinds_not_allowed() {
     for (name, lowest, highest) in NOT_ALLOWED {
         assert_eq!(decode(lowest), Decoded::NotAllowed, "{name}: lowest");
         assert_eq!(decode(highest), Decoded::NotAllowed, "{name}: highest");
+    }
+}
+
+/// The highest four bits of a word, and the bits that tell its kind: the first two, and for 11b all four.
+#[rustfmt::skip]
+const KINDS: [(&str, u32, u32); 16] = [
+    ("fixed, 0000b", 0b0000, 0b00), ("fixed, 0001b", 0b0001, 0b00), ("fixed, 0010b", 0b0010, 0b00), ("fixed, 0011b", 0b0011, 0b00),
+    ("battery, 0100b", 0b0100, 0b01), ("battery, 0101b", 0b0101, 0b01), ("battery, 0110b", 0b0110, 0b01), ("battery, 0111b", 0b0111, 0b01),
+    ("variable, 1000b", 0b1000, 0b10), ("variable, 1001b", 0b1001, 0b10), ("variable, 1010b", 0b1010, 0b10), ("variable, 1011b", 0b1011, 0b10),
+    ("PPS, 1100b", 0b1100, 0b1100), ("EPR AVS, 1101b", 0b1101, 0b1101), ("AVS, 1110b", 0b1110, 0b1110), ("1111b", 0b1111, 0b1111),
+];
+
+#[test]
+fn kinds_told_by_their_bits() {
+    for (name, top, bits) in KINDS {
+        for rest in [0, 0x0FFF_FFFF] {
+            assert_eq!(kind_bits(top << 28 | rest), bits, "{name}, rest {rest:08X}");
+        }
     }
 }
 
