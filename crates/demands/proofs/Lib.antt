@@ -26,5 +26,6 @@ pub mod RightLibrary
 pub mod FlatContracts
 pub mod FlatOutcomes
 pub mod FlatRefusals
+pub mod NoKindCases
 pub mod FlatUnread
 pub mod FlatRoundTrips
