@@ -36,7 +36,7 @@ use Rattle.steps.proofs.Ma50.to_ma10.Reads as ma50-to-ma10
 use Rattle.objects.specs.declared.Object.{Object}
 use Rattle.objects.specs.declared.Decoded.{Decoded}
 use Rattle.objects.specs.declared.Encoded.{Encoded}
-use Rattle.objects.proofs.kind_bits.Reads as kind-bits
+use Rattle.objects.proofs.is_kind.Reads as is-kind
 use Rattle.objects.proofs.decode.Reads as decode
 use Rattle.objects.proofs.reserved_bit_set.Reads as reserved-bit-set
 use Rattle.objects.proofs.encode.Reads as encode
@@ -134,8 +134,8 @@ Ma50ToMa10Answers v r = ma50-to-ma10.Post tt (v, tt) r (v, tt)
 
 -- ---- objects
 
-abbrev pub KindBitsAnswers : ℕ → ℕ → Type 0
-KindBitsAnswers w r = kind-bits.Post tt (w, tt) r (w, tt)
+abbrev pub IsKindAnswers : ℕ → ℕ → Bool → Type 0
+IsKindAnswers w kind r = is-kind.Post tt (w, (kind, tt)) r (w, (kind, tt))
 
 abbrev pub DecodeAnswers : ℕ → Decoded → Type 0
 DecodeAnswers w r = decode.Post tt (w, tt) r (w, tt)

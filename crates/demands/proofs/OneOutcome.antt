@@ -12,7 +12,7 @@ use Rattle.steps.specs.declared.Ma10.{Ma10}
 use Rattle.objects.specs.declared.Object.{Object}
 use Rattle.demands.proofs.Contracts.{RoundDownAnswers, RoundUpAnswers}
 use Rattle.demands.proofs.Contracts.{Mv20ToMv25Answers, Mv20ToMv50Answers, Mv20ToMv100Answers, Mv25ToMv20Answers, Mv25ToMv50Answers, Mv25ToMv100Answers, Mv50ToMv20Answers, Mv50ToMv25Answers, Mv50ToMv100Answers, Mv100ToMv20Answers, Mv100ToMv25Answers, Mv100ToMv50Answers, Ma10ToMa50Answers, Ma50ToMa10Answers}
-use Rattle.demands.proofs.Contracts.{KindBitsAnswers, DecodeAnswers, ReservedAnswers, EncodeAnswers, FixedWordAnswers, PpsWordAnswers, AvsWordAnswers}
+use Rattle.demands.proofs.Contracts.{IsKindAnswers, DecodeAnswers, ReservedAnswers, EncodeAnswers, FixedWordAnswers, PpsWordAnswers, AvsWordAnswers}
 use Rattle.demands.proofs.Contracts.{ShapeAnswers, ReadAnswers, RefuseAnswers, WriteAnswers}
 use Rattle.rules.specs.declared.Profile.{Profile}
 use Rattle.demands.proofs.Contracts.{BadCableAnswers, DefaultAnswers, BuildAnswers, CheckAnswers, WordAtAnswers}
@@ -87,8 +87,8 @@ ma50-to-ma10-settles v r s e f = ma10-one r s (only e f)
 
 -- ---- objects
 
-pub kind-bits-settles : Settled KindBitsAnswers
-kind-bits-settles w r s e f = only e f
+pub is-kind-settles : (w : ℕ) → Settled (IsKindAnswers w)
+is-kind-settles w kind r s e f = only e f
 
 pub decode-settles : Settled DecodeAnswers
 decode-settles w r s e f = decoded-one r s (only e f)

@@ -40,7 +40,7 @@ pub enum Judged {
 fn is_fixed_5_v(w: u32) -> bool
     ensures { λ r. ⌜ r ≡ isFixed5V w ⌝ }
 {
-    if objects::kind_bits(w) != objects::BITS_FIXED {
+    if !objects::is_kind(w, objects::BITS_FIXED) {
         return false;
     }
     (w >> 10) & 0x3FF == 100
@@ -139,7 +139,7 @@ fn judge_words(list: Words) -> Scan
 fn fixed_with(w: u32, volts: Mv50, current: Ma10) -> bool
     ensures { λ r. ⌜ r ≡ ofObject (fixedWith (mv50 volts) current) (decodeOf w) ⌝ }
 {
-    if objects::kind_bits(w) != objects::BITS_FIXED {
+    if !objects::is_kind(w, objects::BITS_FIXED) {
         return false;
     }
     if (w >> 10) & 0x3FF != (volts.0 as u32) {
@@ -172,7 +172,7 @@ fn avs_differs(list: Words, w: u32) -> bool
     requires { ⌜ list .count ≤ 7 ⌝ }
     ensures { λ r. ⌜ r ≡ ofObject (avsDiffers (list .words) (list .count)) (decodeOf w) ⌝ }
 {
-    if objects::kind_bits(w) != objects::BITS_AVS {
+    if !objects::is_kind(w, objects::BITS_AVS) {
         return false;
     }
     let low = Ma10(((w >> 10) & 0x3FF) as u16);

@@ -3,13 +3,13 @@
 use mathlib.Core.Path.{_≡_, refl, ap, sym, _∙_}
 use mathlib.Core.Bool.{Bool, true, false, cond}
 use mathlib.Core.Logic.{_⊎_, inl, inr, ⊎-elim}
-use Prim.Native.Nat.{ℕ, zero, suc, _+_, _*_, _/_, _%_, _^_, _<_}
+use Prim.Native.Nat.{ℕ, zero, suc, _+_, _*_, _/_, _%_, _^_, _≤_, _<_}
 use native.Mathlib.Omega.{arith}
 use lib.Pow.{mod-pow-add, shr-shr}
 use lib.Dec.{eqb}
-use borrow.Author.Tests.{eqb-true, eqb-false}
+use borrow.Author.Tests.{eqb-true, eqb-false, ne-eqb}
 use Rattle.objects.specs.Bits.{bits}
-use Rattle.objects.specs.Decode.{byAugmented, byKind, kindBits, decodeOf}
+use Rattle.objects.specs.Decode.{byAugmented, byKind, kindBits, isKind, decodeOf}
 use Rattle.objects.specs.declared.Decoded.{Decoded}
 use Rattle.objects.proofs.Taking.{bits-lt}
 
@@ -61,19 +61,36 @@ module _ (w : ℕ) where
   pub long-is : (m : ℕ) → kindBits w ≡ 12 + m → decodeOf w ≡ byAugmented m w
   long-is m e = let x = long-kind m e in augmented-is w m (x .0) (x .1)
 
-  -- and there is no other
-  pub no-other-kind : (kindBits w ≡ 0 → ⊥) → (kindBits w ≡ 1 → ⊥) → (kindBits w ≡ 2 → ⊥) → (kindBits w ≡ 12 → ⊥) → (kindBits w ≡ 13 → ⊥)
-      → (kindBits w ≡ 14 → ⊥) → (kindBits w ≡ 15 → ⊥) → ⊥
-  no-other-kind a b d f g h i = ⊎-elim (λ x. short (bits w 31 30) (x .1) (x .0)) (λ x. long (bits w 29 28) (bits-lt w 29 28) (x .1)) short-or-long where
-    short : (k : ℕ) → k < 3 → kindBits w ≡ k → ⊥
-    short zero l e = a e
-    short (suc zero) l e = b e
-    short (suc (suc zero)) l e = d e
-    short (suc (suc (suc k))) l e = omega arith
+  -- and by its four highest bits, where the kind is 11b
+  pub last-two : (m : ℕ) → bits w 31 30 ≡ 3 → bits w 31 28 ≡ 12 + m → bits w 29 28 ≡ m
+  last-two m e f = omega (arith, four w, e, f)
 
-    long : (m : ℕ) → m < 4 → kindBits w ≡ 12 + m → ⊥
-    long zero l e = f e
-    long (suc zero) l e = g e
-    long (suc (suc zero)) l e = h e
-    long (suc (suc (suc zero))) l e = i e
-    long (suc (suc (suc (suc m)))) l e = omega arith
+  -- of which there are four
+  pub no-other-kind : bits w 31 30 ≡ 3 → (bits w 31 28 ≡ 12 → ⊥) → (bits w 31 28 ≡ 13 → ⊥) → (bits w 31 28 ≡ 14 → ⊥) → (bits w 31 28 ≡ 15 → ⊥) → ⊥
+  no-other-kind e a b d f = go (bits w 29 28) (bits-lt w 29 28) (omega (arith, four w, e)) where
+    go : (m : ℕ) → m < 4 → bits w 31 28 ≡ 12 + m → ⊥
+    go zero l q = a q
+    go (suc zero) l q = b q
+    go (suc (suc zero)) l q = d q
+    go (suc (suc (suc zero))) l q = f q
+    go (suc (suc (suc (suc m)))) l q = omega arith
+
+  -- ---- whether a word is of a kind, by the bits that its number has
+
+  pub told-short : (kind : ℕ) → kind < 3 → eqb (bits w 31 30) kind ≡ isKind w kind
+  told-short kind h =
+      ⊎-elim (λ x. sym (ap (λ (n : ℕ). eqb n kind) (x .0)))
+      (λ x. ne-eqb (bits w 31 30) kind (λ e. omega (arith, x .0, h, e)) ∙ sym (ne-eqb (kindBits w) kind (λ e. omega (arith, x .1, h, e)))) short-or-long
+
+  pub told-none : (kind : ℕ) → 3 ≤ kind → kind < 12 → isKind w kind ≡ false
+  told-none kind low high =
+      ne-eqb (kindBits w) kind
+      (λ e. ⊎-elim (λ x. omega (arith, x .0, x .1, low, e)) (λ x. omega (arith, x .1, high, e)) short-or-long)
+
+  pub told-long : (kind : ℕ) → 12 ≤ kind → eqb (bits w 31 28) kind ≡ isKind w kind
+  told-long kind h =
+      ⊎-elim
+      (λ x.
+      ne-eqb (bits w 31 28) kind (λ e. omega (arith, four w, x .1, bits-lt w 29 28, h, e))
+      ∙ sym (ne-eqb (kindBits w) kind (λ e. omega (arith, x .0, x .1, h, e))))
+      (λ x. ap (λ (n : ℕ). eqb n kind) (sym (kind-long (x .0)))) short-or-long

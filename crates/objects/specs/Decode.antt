@@ -37,6 +37,9 @@ avsOf w = Avs (bits w 27 26) (record { 0 = bits w 19 10 }) (record { 0 = bits w 
 unfoldable pub kindBits : ℕ → ℕ
 kindBits w = cond (eqb (bits w 31 30) 3) (bits w 31 28) (bits w 31 30)
 
+abbrev pub isKind : ℕ → ℕ → Bool
+isKind w kind = eqb (kindBits w) kind
+
 -- 11b: 00b is PPS and 10b SPR AVS. "1101b (EPR AVS) and 1111b are not allowed in an SPR list."
 abbrev pub byAugmented : ℕ → ℕ → Decoded
 byAugmented zero w = Known (ppsOf w)

@@ -6,11 +6,11 @@ use Prim.Native.Nat.{ℕ}
 use Rattle.objects.specs.declared.Object.{Object}
 use Rattle.objects.specs.declared.Decoded.{Decoded}
 use Rattle.objects.specs.declared.Encoded.{Encoded}
-use Rattle.objects.specs.Decode.{kindBits, decodedSays, decodeSays, reservedSet}
+use Rattle.objects.specs.Decode.{isKind, decodedSays, decodeSays, reservedSet}
 use Rattle.objects.specs.Encode.{encodedSays, encodeSays}
 
-abbrev pub TellsKind : ℕ → ℕ → Type 0
-TellsKind w r = r ≡ kindBits w
+abbrev pub TellsKind : ℕ → ℕ → Bool → Type 0
+TellsKind w kind r = r ≡ isKind w kind
 
 abbrev pub Decodes : ℕ → Decoded → Type 0
 Decodes w r = decodedSays r ≡ decodeSays w

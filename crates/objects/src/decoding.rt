@@ -69,32 +69,40 @@ fn avs(w: u32) -> Object
     }
 }
 
-// The number that tells the kind: bits 31..30, and for 11b with bits 29..28 behind them. One of those above.
-pub fn kind_bits(w: u32) -> u32
-    ensures { λ r. ⌜ TellsKind w r ⌝ }
-{
-    let kind = (w >> 30) & 0x3;
-    if kind != 0x3 {
-        return kind;
-    }
-    (w >> 28) & 0xF
-}
-
 // What a word says. It does not look at reserved bits: `reserved_bit_set` does.
 pub fn decode(w: u32) -> Decoded
     ensures { λ r. ⌜ Decodes w r ⌝ }
 {
-    let kind = kind_bits(w);
+    let kind = (w >> 30) & 0x3;
     match kind {
         BITS_FIXED => Decoded::Known(fixed(w)),
         BITS_BATTERY => Decoded::Known(battery(w)),
         BITS_VARIABLE => Decoded::Known(variable(w)),
-        BITS_PPS => Decoded::Known(pps(w)),
-        BITS_EPR_AVS => Decoded::NotAllowed,
-        BITS_AVS => Decoded::Known(avs(w)),
-        BITS_UNASSIGNED => Decoded::NotAllowed,
-        _ => Decoded::NotAllowed,
+        _ => {
+            let augmented = (w >> 28) & 0xF;
+            match augmented {
+                BITS_PPS => Decoded::Known(pps(w)),
+                BITS_EPR_AVS => Decoded::NotAllowed,
+                BITS_AVS => Decoded::Known(avs(w)),
+                BITS_UNASSIGNED => Decoded::NotAllowed,
+                _ => Decoded::NotAllowed,
+            }
+        }
     }
+}
+
+// Whether a word is of a kind, one of the seven numbers; of any other no word is. For a caller that needs no object: the
+// number is known there, so one test is left.
+pub fn is_kind(w: u32, kind: u32) -> bool
+    ensures { λ r. ⌜ TellsKind w kind r ⌝ }
+{
+    if kind < 0x3 {
+        return (w >> 30) & 0x3 == kind;
+    }
+    if kind < 0xC {
+        return false;
+    }
+    (w >> 28) & 0xF == kind
 }
 
 // Whether a word has a bit set that is reserved for an object of this kind. The first word of a list may carry flags.

@@ -9,7 +9,7 @@ mod decoding;
 mod encoding;
 
 pub use decoding::decode;
-pub use decoding::kind_bits;
+pub use decoding::is_kind;
 pub use decoding::reserved_bit_set;
 pub use encoding::avs_word;
 pub use encoding::encode;

@@ -6,7 +6,7 @@ use crate::common::run::Run;
 use crate::objects_made;
 use arinduleu::flat::{flatten, raise, Raised};
 use arinduleu::objects::{
-    avs_word, decode, encode, fixed_word, kind_bits, pps_word, reserved_bit_set, Decoded, Encoded,
+    avs_word, decode, encode, fixed_word, is_kind, pps_word, reserved_bit_set, Decoded, Encoded,
     BITS_AVS, BITS_BATTERY, BITS_EPR_AVS, BITS_FIXED, BITS_PPS, BITS_UNASSIGNED, BITS_VARIABLE,
 };
 use arinduleu::steps::{Ma10, Ma50, Mv100, Mv50};
@@ -18,6 +18,16 @@ fn decoded(word: u32) -> Option<Object> {
         Decoded::NotAllowed => None,
     }
 }
+
+const KINDS: [u32; 7] = [
+    BITS_FIXED,
+    BITS_BATTERY,
+    BITS_VARIABLE,
+    BITS_PPS,
+    BITS_EPR_AVS,
+    BITS_AVS,
+    BITS_UNASSIGNED,
+];
 
 /// The bits of a kind that the model knows.
 fn bits_of(object: Object) -> u32 {
@@ -75,17 +85,23 @@ fn words_and_objects() {
         let word = objects_made::word(&mut run.random);
         let known = model::decode(word);
         run.same("decode", &word, decoded(word), known);
-        let refused = [BITS_EPR_AVS, BITS_UNASSIGNED];
-        let bits = kind_bits(word);
+        let kinds = KINDS.iter().filter(|kind| is_kind(word, **kind));
+        let kinds: Vec<u32> = kinds.copied().collect();
         run.same(
-            "kind_bits",
+            "is_kind",
             &word,
             match known {
-                Some(object) => bits == bits_of(object),
-                None => refused.contains(&bits),
+                Some(object) => kinds == [bits_of(object)],
+                None => kinds == [BITS_EPR_AVS] || kinds == [BITS_UNASSIGNED],
             },
             true,
         );
+        let other = match run.random.below(2) {
+            0 => run.random.below(16) as u32,
+            _ => run.random.u32(),
+        };
+        let is_none = !KINDS.contains(&other) && is_kind(word, other);
+        run.same("is_kind of no kind", &(word, other), is_none, false);
         run.reached(if known.is_some() {
             "known"
         } else {

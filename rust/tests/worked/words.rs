@@ -1,7 +1,7 @@
 //! One word: the object it says, its reserved bits, and the word that an object makes.
 
 use crate::making::{avs, battery, fixed, pps, variable};
-use arinduleu::objects::{decode, encode, kind_bits, reserved_bit_set, Decoded, Encoded, Object};
+use arinduleu::objects::{decode, encode, is_kind, reserved_bit_set, Decoded, Encoded, Object};
 
 /// Each kind twice: fields that all differ, and every bit below the kind set, so that a field that took a bit too many
 /// or too few would show.
@@ -59,7 +59,10 @@ const KINDS: [(&str, u32, u32); 16] = [
 fn kinds_told_by_their_bits() {
     for (name, top, bits) in KINDS {
         for rest in [0, 0x0FFF_FFFF] {
-            assert_eq!(kind_bits(top << 28 | rest), bits, "{name}, rest {rest:08X}");
+            for kind in 0..=16 {
+                let told = is_kind(top << 28 | rest, kind);
+                assert_eq!(told, kind == bits, "{name}, rest {rest:08X}, {kind:04b}b");
+            }
         }
     }
 }

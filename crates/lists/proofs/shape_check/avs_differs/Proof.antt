@@ -1,13 +1,14 @@
 -- `lists::shape_check::avs_differs` meets its contract: of an AVS word the 15 V object is looked for first, then the end of the range.
 -- Assumes nothing.
 use borrow.Author.Needs.{needs}
+use borrow.Author.Tests.{not-true, not-false}
 use mathlib.Core.Path.{_≡_, ap, ap₂, sym, _∙_}
-use mathlib.Core.Bool.{not}
+use mathlib.Core.Bool.{true, not}
 use mathlib.Core.List.{List}
 use Prim.Native.Nat.{ℕ, _/_, _^_}
 use lib.Bits.{bitAnd}
 use Rattle.objects.specs.Asking.{ofObject}
-use Rattle.objects.specs.Decode.{kindBits, decodeOf}
+use Rattle.objects.specs.Decode.{isKind, decodeOf}
 use Rattle.objects.proofs.Taking.{taken, taken-low, taken-fits, low-fits}
 use Rattle.lists.specs.Shape.{avsMatches, avsDiffers}
 use Rattle.lists.proofs.Telling.{no-avs, an-avs}
@@ -16,30 +17,30 @@ use Rattle.lists.proofs.shape_check.avs_differs.Statement.{statement}
 use Rattle.lists.proofs.shape_check.avs_differs.Tie as tie
 
 -- an AVS word, by the currents taken out of it
-as-taken : (ws : List ℕ) (n w : ℕ) → kindBits w ≡ 14
+as-taken : (ws : List ℕ) (n w : ℕ) → isKind w 14 ≡ true
     → ofObject (avsDiffers ws n) (decodeOf w) ≡ not (avsMatches ws n (record { 0 = bitAnd (w / 2 ^ 10) 1023 }) (record { 0 = bitAnd w 1023 }))
 unfolding avsDiffers
 as-taken ws n w e =
     an-avs (λ low high. not (avsMatches ws n low high)) w e
     ∙ ap₂ (λ (l h : ℕ). not (avsMatches ws n (record { 0 = l }) (record { 0 = h }))) (sym (taken w 19 10)) (sym (taken-low w 9))
 
-is-avs : (c : tie.Else1) → kindBits (c .before .before .args .w) ≡ 14
-is-avs c = sym (c .before .kind-bits .ensures) ∙ c .if1 .left
+is-avs : (c : tie.Else1) → isKind (c .before .before .args .w) 14 ≡ true
+is-avs c = sym (c .before .is-kind .ensures) ∙ not-false _ (c .if1 .left)
 
-kind-bits-requires : tie.Need-kind-bits-requires
-kind-bits-requires c κs = search needs
+is-kind-requires : tie.Need-is-kind-requires
+is-kind-requires c κs = search needs
 
 returns : tie.Need-returns
 unfolding avsDiffers
 returns c =
     let x = c .before .before .args in
-    sym (no-avs (λ low high. not (avsMatches (x .list .words) (x .list .count) low high)) (x .w) (λ e. c .if1 .taken (c .before .kind-bits .ensures ∙ e)))
+    sym (no-avs (λ low high. not (avsMatches (x .list .words) (x .list .count) low high)) (x .w) (sym (c .before .is-kind .ensures) ∙ not-true _ (c .if1 .taken)))
 
-cast-t8 : tie.Need-cast-t8
-cast-t8 c = taken-fits (c .before .before .args .w) 19 10 tt
+cast-t9 : tie.Need-cast-t9
+cast-t9 c = taken-fits (c .before .before .args .w) 19 10 tt
 
-cast-t8-2 : tie.Need-cast-t8-2
-cast-t8-2 c = low-fits (c .before .before .args .w) 9 tt
+cast-t9-2 : tie.Need-cast-t9-2
+cast-t9-2 c = low-fits (c .before .before .args .w) 9 tt
 
 has-fixed-requires : tie.Need-has-fixed-requires
 has-fixed-requires c κs = search needs
@@ -73,10 +74,10 @@ pub avs-differs-spec : {M : Type 1} → statement M
 avs-differs-spec =
     tie.close
     (tie.spec
-    kind-bits-requires
+    is-kind-requires
     returns
-    cast-t8
-    cast-t8-2
+    cast-t9
+    cast-t9-2
     has-fixed-requires
     returns-2
     has-fixed-requires-2

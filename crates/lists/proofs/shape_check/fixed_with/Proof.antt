@@ -6,7 +6,7 @@ use mathlib.Core.Bool.{Bool, _&&_}
 use Prim.Native.Nat.{ℕ}
 use native.Mathlib.Omega.{arith}
 use lib.Dec.{eqb}
-use borrow.Author.Tests.{eq-eqb, ne-eqb}
+use borrow.Author.Tests.{eq-eqb, ne-eqb, not-true, not-false}
 use Rattle.steps.specs.Units.{mv50}
 use Rattle.steps.specs.declared.Mv50.{Mv50}
 use Rattle.steps.specs.declared.Ma10.{Ma10}
@@ -20,13 +20,13 @@ use Rattle.lists.proofs.shape_check.fixed_with.Tie as tie
 abbrev asked : Mv50 → Ma10 → Mv50 → Ma10 → Bool
 asked volts current v a = eqb (mv50 v) (mv50 volts) && eqb (a .0) (current .0)
 
-kind-bits-requires : tie.Need-kind-bits-requires
-kind-bits-requires c κs = search needs
+is-kind-requires : tie.Need-is-kind-requires
+is-kind-requires c κs = search needs
 
 returns : tie.Need-returns
 returns c =
     let x = c .before .before .args in
-    sym (no-fixed (asked (x .volts) (x .current)) (x .w) (λ e. c .if1 .taken (c .before .kind-bits .ensures ∙ e)))
+    sym (no-fixed (asked (x .volts) (x .current)) (x .w) (sym (c .before .is-kind .ensures) ∙ not-true _ (c .if1 .taken)))
 
 cast-if2 : tie.Need-cast-if2
 cast-if2 c = search needs
@@ -36,7 +36,7 @@ returns-2 c =
     let k = c .before .before in
     let x = k .before .before .args in
     let v = bits (x .w) 19 10 in
-    sym (a-fixed (asked (x .volts) (x .current)) (x .w) (sym (k .before .kind-bits .ensures) ∙ k .if1 .left)
+    sym (a-fixed (asked (x .volts) (x .current)) (x .w) (sym (k .before .is-kind .ensures) ∙ not-false _ (k .if1 .left))
     ∙ ap (λ (b : Bool). b && eqb (bits (x .w) 9 0) (x .current .0))
     (sym (at 50 (x .volts .0) v (omega arith)) ∙ ne-eqb v (x .volts .0) (λ e. c .if2 .taken (taken (x .w) 19 10 ∙ e))))
 
@@ -49,9 +49,9 @@ returns-3 c =
     let x = k .before .before .args in
     let v = bits (x .w) 19 10 in
     ap (λ (a : ℕ). eqb a (x .current .0)) (taken-low (x .w) 9)
-    ∙ sym (a-fixed (asked (x .volts) (x .current)) (x .w) (sym (k .before .kind-bits .ensures) ∙ k .if1 .left)
+    ∙ sym (a-fixed (asked (x .volts) (x .current)) (x .w) (sym (k .before .is-kind .ensures) ∙ not-false _ (k .if1 .left))
     ∙ ap (λ (b : Bool). b && eqb (bits (x .w) 9 0) (x .current .0))
     (sym (at 50 (x .volts .0) v (omega arith)) ∙ eq-eqb v (x .volts .0) (sym (taken (x .w) 19 10) ∙ c .before .if2 .left)))
 
 pub fixed-with-spec : {M : Type 1} → statement M
-fixed-with-spec = tie.close (tie.spec kind-bits-requires returns cast-if2 returns-2 cast-result returns-3)
+fixed-with-spec = tie.close (tie.spec is-kind-requires returns cast-if2 returns-2 cast-result returns-3)

@@ -1,6 +1,7 @@
 -- `lists::shape_check::is_fixed_5_v` meets its contract: 5 V is 100 steps of 50 mV.
 -- Assumes nothing.
 use borrow.Author.Needs.{needs}
+use borrow.Author.Tests.{not-true, not-false}
 use mathlib.Core.Path.{ap, sym, _∙_}
 use Prim.Native.Nat.{ℕ}
 use native.Mathlib.Omega.{arith}
@@ -14,14 +15,14 @@ use Rattle.lists.proofs.Telling.{no-fixed, a-fixed}
 use Rattle.lists.proofs.shape_check.is_fixed_5_v.Statement.{statement}
 use Rattle.lists.proofs.shape_check.is_fixed_5_v.Tie as tie
 
-kind-bits-requires : tie.Need-kind-bits-requires
-kind-bits-requires c κs = search needs
+is-kind-requires : tie.Need-is-kind-requires
+is-kind-requires c κs = search needs
 
 returns : tie.Need-returns
 unfolding isFixed5V
 returns c =
     let w = c .before .before .args .w in
-    sym (no-fixed (λ v a. eqb (mv50 v) 5000) w (λ e. c .if1 .taken (c .before .kind-bits .ensures ∙ e)))
+    sym (no-fixed (λ v a. eqb (mv50 v) 5000) w (sym (c .before .is-kind .ensures) ∙ not-true _ (c .if1 .taken)))
 
 returns-2 : tie.Need-returns-2
 unfolding isFixed5V
@@ -29,7 +30,7 @@ returns-2 c =
     let w = c .before .before .args .w in
     ap (λ (x : ℕ). eqb x 100) (taken w 19 10)
     ∙ at 50 100 (bits w 19 10) (omega arith)
-    ∙ sym (a-fixed (λ v a. eqb (mv50 v) 5000) w (sym (c .before .kind-bits .ensures) ∙ c .if1 .left))
+    ∙ sym (a-fixed (λ v a. eqb (mv50 v) 5000) w (sym (c .before .is-kind .ensures) ∙ not-false _ (c .if1 .left)))
 
 pub is-fixed-5-v-spec : {M : Type 1} → statement M
-is-fixed-5-v-spec = tie.close (tie.spec kind-bits-requires returns returns-2)
+is-fixed-5-v-spec = tie.close (tie.spec is-kind-requires returns returns-2)
