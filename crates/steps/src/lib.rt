@@ -1,5 +1,6 @@
-// Steps of measure (01, "Steps of measure"). Each step is a type of its own, so a figure in one step never stands
-// where another step is expected. The number inside counts steps: `Mv50(100)` is 5 V.
+// Steps of measure (01, "Steps of measure"). Each step is a type of its own, so in a field or a signature a figure in one
+// step never stands where another is expected. The number inside counts steps: `Mv50(100)` is 5 V. Taken out by `.0` it has
+// no step; there the contracts, which speak of mV, mA and mW, say what it measures.
 
 mod currents;
 mod rounding;
