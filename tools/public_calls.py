@@ -8,7 +8,7 @@ Each public function has one row under "## Every public function":
 
     | `crate::name` or `crate::Type::name` | what it refuses, or "nothing" | outcome | refusals | unread places |
 
-The last three cells are theorems of crates/*/proofs, `name` or `name`, `name`, or a dash and a reason: "- takes no list".
+The last three cells are theorems of crates/demands/proofs, `name` or `name`, `name`, or a dash and a reason: "- takes no list".
 "No second outcome" is asked of all, and a theorem of refusals of each that refuses something. The contract has an `ensures`
 and no `requires`.
 """
@@ -101,9 +101,9 @@ def public_functions(root, crate, faults):
 
 
 def theorems_of(root):
-    """Every `pub NAME :` of the proofs, in a `module _` block too. The fields of a record have that form and are none."""
+    """Every `pub NAME :` of demands, in a `module _` block too. The fields of a record have that form and are none."""
     found = set()
-    for path in root.glob("crates/*/proofs/*.antt"):
+    for path in root.glob("crates/demands/proofs/*.antt"):
         fields = False
         for line in lines_of(path):
             if line[:1].strip():
@@ -143,7 +143,7 @@ def judge_row(place, function, cells, theorems, faults):
             faults.append(f"{place}: {function}: {column}: not `names`, and no dash with a reason: '{cell}'")
         for name in names_in(cell):
             if name not in theorems:
-                faults.append(f"{place}: {function}: {column}: there is no theorem {name} in crates/*/proofs")
+                faults.append(f"{place}: {function}: {column}: there is no theorem {name} in crates/demands/proofs")
     if REASON.fullmatch(outcome):
         faults.append(f"{place}: {function}: no theorem says that it has no second outcome")
     if REASON.fullmatch(refusals) and refuses != "nothing":

@@ -1,8 +1,8 @@
 -- Demand 1 for the calls whose answer is an enum: what the answer says (its number and its values) is a refusal exactly where that refusal
 -- applies, and on a refusal all else is zero. Each of these calls has one refusal.
 -- Assumes nothing.
-use mathlib.Core.Path.{_≡_, refl, sym, ap, _∙_, subst}
-use mathlib.Core.Bool.{Bool, true, false, true≢false, not, cond}
+use mathlib.Core.Path.{_≡_, refl, sym, _∙_, subst}
+use mathlib.Core.Bool.{Bool, true, false, true≢false, cond}
 use mathlib.Core.Logic.{_↔_, _⊎_, inl, inr, ⊎-elim}
 use Prim.Native.Nat.{ℕ, _-_, _*_, _<_}
 use native.Mathlib.Omega.{arith}
@@ -21,7 +21,7 @@ use Rattle.steps.specs.declared.Ma50.{Ma50}
 use Rattle.steps.specs.declared.InMa50.{InMa50}
 use Rattle.steps.specs.Ranges.{within}
 use Rattle.steps.specs.Measure.{convertedOf, mv20Says, mv25Says, mv50Says, mv100Says, ma10Says, ma50Says}
-use Rattle.steps.proofs.ConversionLaws.{exactly-only, lost, lost-only, given-or-refused}
+use Rattle.steps.proofs.ConversionLaws.{exactly-only, lost-only, given-or-refused}
 use Rattle.objects.specs.declared.Object.{Object}
 use Rattle.objects.specs.declared.Object.the-variants.{Fixed, Pps, Avs}
 use Rattle.objects.specs.declared.Decoded.{Decoded}
@@ -33,7 +33,7 @@ use Rattle.objects.specs.Layout.{allFit}
 use Rattle.objects.specs.Decode.{zeroObject, decodeOf, decodedSays}
 use Rattle.objects.specs.Encode.{fieldsOf, encodeOf, encodedSays}
 use Rattle.objects.proofs.Numbers.{decode-refuses, encode-refuses}
-use Rattle.objects.proofs.Saying.{decode-says, encode-says}
+use Rattle.objects.proofs.Saying.{word-says, object-says}
 use Rattle.lists.specs.declared.Words.{Words}
 use Rattle.rules.specs.declared.Profile.{Profile}
 use Rattle.rules.specs.declared.Placed.{Placed}
@@ -46,7 +46,7 @@ use Rattle.flat.specs.declared.Raised.{Raised}
 use Rattle.flat.specs.declared.Raised.the-variants as raised
 use Rattle.flat.specs.Flat.{raisedOf, raisedSays}
 use Rattle.flat.proofs.BothWays.{raise-refuses}
-use Rattle.flat.proofs.Saying.{raise-says}
+use Rattle.flat.proofs.Saying.{flat-says}
 use Rattle.demands.proofs.Contracts.{Mv20ToMv25Answers, Mv20ToMv50Answers, Mv20ToMv100Answers, Mv25ToMv20Answers, Mv25ToMv50Answers, Mv25ToMv100Answers, Mv50ToMv20Answers, Mv50ToMv25Answers, Mv50ToMv100Answers, Mv100ToMv20Answers, Mv100ToMv25Answers, Mv100ToMv50Answers, Ma10ToMa50Answers, Ma50ToMa10Answers}
 use Rattle.demands.proofs.Contracts.{DecodeAnswers, EncodeAnswers, FixedWordAnswers, PpsWordAnswers, AvsWordAnswers, WordAtAnswers}
 use Rattle.demands.proofs.FlatContracts.{RaiseAnswers}
@@ -123,7 +123,7 @@ ma50-to-ma10-refuses v r e = converts (v .0) 50 10 (omega arith) (ma10Says r) e
 -- ---- one number
 
 -- n exactly where its refusal applies, and 0 exactly where it does not; on a refusal the value is zero
-pub record Alone {A : Type 0} (none : A) (n : ℕ) (Applies : Type 0) (said : ℕ × A) : Type 0 where
+pub record OneRefusal {A : Type 0} (none : A) (n : ℕ) (Applies : Type 0) (said : ℕ × A) : Type 0 where
   pub refuses : said .0 ≡ n ↔ Applies
   pub accepts : said .0 ≡ 0 ↔ (Applies → ⊥)
   pub empty : (said .0 ≡ 0 → ⊥) → said .1 ≡ none
@@ -132,9 +132,9 @@ pub record Alone {A : Type 0} (none : A) (n : ℕ) (Applies : Type 0) (said : �
 abbrev TwoWays : {A : Type 0} → A → ℕ → ℕ × A → Type 0
 TwoWays none n said = (said .0 ≡ 0) ⊎ ((said .0 ≡ n) × (said .1 ≡ none))
 
-alone : {A : Type 0} (none : A) (n : ℕ) (Applies : Type 0) (said : ℕ × A) → (n ≡ 0 → ⊥) → TwoWays none n said → (said .0 ≡ n ↔ Applies)
-    → Alone none n Applies said
-alone none n Applies said f two exact = record {
+one-refusal : {A : Type 0} (none : A) (n : ℕ) (Applies : Type 0) (said : ℕ × A) → (n ≡ 0 → ⊥) → TwoWays none n said → (said .0 ≡ n ↔ Applies)
+    → OneRefusal none n Applies said
+one-refusal none n Applies said f two exact = record {
   refuses = exact;
   accepts = ((λ e a. f (sym (exact .1 a) ∙ e)), (λ g. ⊎-elim (λ e. e) (λ x. absurd (g (exact .0 (x .0)))) two));
   empty = λ g. ⊎-elim (λ e. absurd (g e)) (λ x. x .1) two;
@@ -152,27 +152,27 @@ encoded-two TooWide = inr (refl, refl)
 
 -- 12 exactly for the kinds 1101b and 1111b
 pub decode-12 : (w : ℕ) (r : Decoded) → DecodeAnswers w r
-    → Alone zeroObject 12 ((bits w 31 30 ≡ 3) × ((bits w 29 28 ≡ 1) ⊎ (bits w 29 28 ≡ 3))) (decodedSays r)
+    → OneRefusal zeroObject 12 ((bits w 31 30 ≡ 3) × ((bits w 29 28 ≡ 1) ⊎ (bits w 29 28 ≡ 3))) (decodedSays r)
 decode-12 w r e =
-    subst (Alone zeroObject 12 ((bits w 31 30 ≡ 3) × ((bits w 29 28 ≡ 1) ⊎ (bits w 29 28 ≡ 3)))) (sym (e ∙ decode-says w))
-    (alone zeroObject 12 _ (decodedSays (decodeOf w)) (λ z. omega (arith, z)) (decoded-two (decodeOf w)) (decode-refuses w))
+    subst (OneRefusal zeroObject 12 ((bits w 31 30 ≡ 3) × ((bits w 29 28 ≡ 1) ⊎ (bits w 29 28 ≡ 3)))) (sym (e ∙ word-says w))
+    (one-refusal zeroObject 12 _ (decodedSays (decodeOf w)) (λ z. omega (arith, z)) (decoded-two (decodeOf w)) (decode-refuses w))
 
 -- 7 exactly where a field is too wide for its bits
-pub encode-7 : (o : Object) (r : Encoded) → EncodeAnswers o r → Alone 0 7 (allFit (fieldsOf o) ≡ false) (encodedSays r)
+pub encode-7 : (o : Object) (r : Encoded) → EncodeAnswers o r → OneRefusal 0 7 (allFit (fieldsOf o) ≡ false) (encodedSays r)
 encode-7 o r e =
-    subst (Alone 0 7 (allFit (fieldsOf o) ≡ false)) (sym (e ∙ encode-says o))
-    (alone 0 7 _ (encodedSays (encodeOf o)) (λ z. omega (arith, z)) (encoded-two (encodeOf o)) (encode-refuses o))
+    subst (OneRefusal 0 7 (allFit (fieldsOf o) ≡ false)) (sym (e ∙ object-says o))
+    (one-refusal 0 7 _ (encodedSays (encodeOf o)) (λ z. omega (arith, z)) (encoded-two (encodeOf o)) (encode-refuses o))
 
 pub fixed-word-7 : (flags peak : ℕ) (volts : Mv50) (current : Ma10) (r : Encoded) → FixedWordAnswers flags peak volts current r
-    → Alone 0 7 (allFit (fieldsOf (Fixed flags peak volts current)) ≡ false) (encodedSays r)
+    → OneRefusal 0 7 (allFit (fieldsOf (Fixed flags peak volts current)) ≡ false) (encodedSays r)
 fixed-word-7 flags peak volts current r e = encode-7 (Fixed flags peak volts current) r e
 
 pub pps-word-7 : (limited : ℕ) (max min : Mv100) (current : Ma50) (r : Encoded) → PpsWordAnswers limited max min current r
-    → Alone 0 7 (allFit (fieldsOf (Pps limited max min current)) ≡ false) (encodedSays r)
+    → OneRefusal 0 7 (allFit (fieldsOf (Pps limited max min current)) ≡ false) (encodedSays r)
 pps-word-7 limited max min current r e = encode-7 (Pps limited max min current) r e
 
 pub avs-word-7 : (peak : ℕ) (low high : Ma10) (r : Encoded) → AvsWordAnswers peak low high r
-    → Alone 0 7 (allFit (fieldsOf (Avs peak low high)) ≡ false) (encodedSays r)
+    → OneRefusal 0 7 (allFit (fieldsOf (Avs peak low high)) ≡ false) (encodedSays r)
 avs-word-7 peak low high r e = encode-7 (Avs peak low high) r e
 
 -- ---- flat
@@ -181,11 +181,11 @@ raised-two : (r : Raised) → TwoWays zeroObject 12 (raisedSays r)
 raised-two (raised.Known o) = inl refl
 raised-two raised.Unknown = inr (refl, refl)
 
--- 12 exactly for a kind number above the five
-pub raise-12 : (x : FlatObject) (r : Raised) → RaiseAnswers x r → Alone zeroObject 12 (4 < x .kind) (raisedSays r)
+-- 12 exactly for a kind number above 4
+pub raise-12 : (x : FlatObject) (r : Raised) → RaiseAnswers x r → OneRefusal zeroObject 12 (4 < x .kind) (raisedSays r)
 raise-12 x r e =
-    subst (Alone zeroObject 12 (4 < x .kind)) (sym (e ∙ raise-says x))
-    (alone zeroObject 12 _ (raisedSays (raisedOf x)) (λ z. omega (arith, z)) (raised-two (raisedOf x)) (raise-refuses x))
+    subst (OneRefusal zeroObject 12 (4 < x .kind)) (sym (e ∙ flat-says x))
+    (one-refusal zeroObject 12 _ (raisedSays (raisedOf x)) (λ z. omega (arith, z)) (raised-two (raisedOf x)) (raise-refuses x))
 
 -- ---- rules
 
@@ -201,9 +201,9 @@ outside l place = go (within 1 (l .count) place) (getD (l .words) (place - 1) 0)
   go false w = ((λ e. refl), (λ e. refl))
 
 -- 20 exactly where the list that is built has no such place
-pub word-at-refuses : (p : Profile) (place : ℕ) (r : Placed) → WordAtAnswers p place r
-    → Alone 0 20 (within 1 (builtOf p .list .count) place ≡ false) (placedSays r)
-word-at-refuses p place r e =
+pub word-at-20 : (p : Profile) (place : ℕ) (r : Placed) → WordAtAnswers p place r
+    → OneRefusal 0 20 (within 1 (builtOf p .list .count) place ≡ false) (placedSays r)
+word-at-20 p place r e =
     let l = builtOf p .list in
-    subst (Alone 0 20 (within 1 (l .count) place ≡ false)) (sym (e ∙ place-says l place))
-    (alone 0 20 _ (placedSays (placedIn l place)) (λ z. omega (arith, z)) (placed-two (placedIn l place)) (outside l place))
+    subst (OneRefusal 0 20 (within 1 (l .count) place ≡ false)) (sym (e ∙ place-says l place))
+    (one-refusal 0 20 _ (placedSays (placedIn l place)) (λ z. omega (arith, z)) (placed-two (placedIn l place)) (outside l place))

@@ -1,6 +1,7 @@
 pub mod Contracts
 pub mod Refusals
 pub mod EnumRefusals
+pub mod KindsAgree
 pub mod SharingRefusals
 pub mod DecidingRefusals
 pub mod ManyRows
@@ -26,6 +27,7 @@ pub mod RightLibrary
 pub mod FlatContracts
 pub mod FlatOutcomes
 pub mod FlatRefusals
+pub mod NoKindOrder
 pub mod NoKindCases
 pub mod FlatUnread
 pub mod FlatRoundTrips

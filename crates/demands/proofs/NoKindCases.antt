@@ -14,7 +14,6 @@ use Rattle.lists.specs.Shape.{isFixed5V, hasFixed, avsDiffers}
 use Rattle.lists.specs.Seven.{sevenTo}
 use Rattle.lists.specs.Writing.{writtenFrom}
 use Rattle.flat.specs.declared.FlatObject.{FlatObject}
-use Rattle.flat.specs.declared.FlatObjects.{FlatObjects}
 use Rattle.flat.specs.Flat.{raisedOf, flatFixed, flatAvs, noMv50, noMv100, noMa10, noMa50, noMw250}
 use Rattle.flat.specs.Writing.{flatWriteOf}
 

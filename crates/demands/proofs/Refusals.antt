@@ -1,6 +1,6 @@
 -- Demand 1, refusals: for each call, number n with its place is given exactly when refusal n applies there and none before it in
--- the order does; on a refusal everything else is zero. The tables of rows are in specs/ of `lists`, in 01's order. Calls whose answer is an enum are in
--- EnumRefusals.
+-- the order does; on a refusal everything else is zero. The tables of rows are in specs/ of `lists`, `rules` and `requests`, in 01's
+-- order. Calls whose answer is an enum are in EnumRefusals.
 -- Assumes nothing.
 use mathlib.Core.Path.{_≡_, refl, sym, ap, _∙_, subst}
 use mathlib.Core.List.{List}

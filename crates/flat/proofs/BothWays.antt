@@ -9,7 +9,7 @@ use Rattle.objects.specs.declared.Object.the-variants.{Fixed, Battery, Variable
 use Rattle.flat.specs.declared.FlatObject.{FlatObject}
 use Rattle.flat.specs.declared.Raised.{Raised}
 use Rattle.flat.specs.declared.Raised.the-variants.{Known, Unknown}
-use Rattle.flat.specs.Flat.{flatOf, raisedBy, raisedOf, raisedNumber, ownBy, ownFields}
+use Rattle.flat.specs.Flat.{flatOf, raisedBy, raisedOf, raisedSays, ownBy, ownFields}
 use Rattle.objects.specs.Decode.{zeroObject}
 
 pub raised-by : (x : FlatObject) (k : ℕ) → x .kind ≡ k → raisedOf x ≡ raisedBy k x
@@ -54,7 +54,11 @@ flat-raise x o e = go (x .kind) e where
 pub flat-raise-same : (x : FlatObject) (o : Object) → raisedOf x ≡ Known o → ownFields x ≡ x → flatOf o ≡ x
 flat-raise-same x o e own = flat-raise x o e ∙ own
 
--- 12 exactly for a kind number above the five
+-- 01's number of an answer
+abbrev pub raisedNumber : Raised → ℕ
+raisedNumber r = raisedSays r .0
+
+-- 12 exactly for a kind number above 4
 pub raise-refuses : (x : FlatObject) → raisedNumber (raisedOf x) ≡ 12 ↔ (4 < x .kind)
 unfolding raisedOf
 raise-refuses x = go (x .kind) where

@@ -1,7 +1,7 @@
 -- What is written for a flat object of no kind: 7 does not apply to it, it is not fixed 5 V, and 12 applies to it and to nothing else.
 -- Assumes nothing.
 use mathlib.Core.Path.{_≡_, refl, sym, ap, _∙_}
-use mathlib.Core.Bool.{Bool, true, false}
+use mathlib.Core.Bool.{false}
 use mathlib.Core.Logic.{_↔_}
 use Prim.Native.Nat.{ℕ, _<_}
 use native.Mathlib.Omega.{arith}
@@ -10,7 +10,6 @@ use Rattle.objects.specs.Layout.{allFit}
 use Rattle.objects.specs.Decode.{decodeOf, decodedNumber}
 use Rattle.objects.specs.Encode.{fieldsOf, encodeOf, encodedNumber}
 use Rattle.objects.specs.declared.Object.{Object}
-use Rattle.objects.specs.declared.Decoded.{Decoded}
 use Rattle.objects.specs.declared.Decoded.the-variants.{NotAllowed}
 use Rattle.objects.specs.declared.Encoded.{Encoded}
 use Rattle.objects.specs.declared.Encoded.the-variants.{Word, TooWide}
@@ -21,9 +20,9 @@ use Rattle.lists.specs.Writing.{wordIn}
 use Rattle.flat.specs.declared.FlatObject.{FlatObject}
 use Rattle.flat.specs.declared.Raised.{Raised}
 use Rattle.flat.specs.declared.Raised.the-variants.{Known, Unknown}
-use Rattle.flat.specs.Flat.{raisedOf, raisedNumber}
+use Rattle.flat.specs.Flat.{raisedOf}
 use Rattle.flat.specs.Writing.{encodedRaised}
-use Rattle.flat.proofs.BothWays.{raise-refuses}
+use Rattle.flat.proofs.BothWays.{raisedNumber, raise-refuses}
 
 -- the word that stands for it is of a kind that is not allowed
 pub no-kind : decodeOf 0xF0000000 ≡ NotAllowed
@@ -62,7 +61,7 @@ word-number : (r : Raised) → decodedNumber (decodeOf (wordIn (encodedRaised r)
 word-number (Known o) = word-known o
 word-number Unknown = ap decodedNumber no-kind
 
--- 12 applies to the word exactly where the kind number is above the five
+-- 12 applies to the word exactly where the kind number is above 4
 pub twelve-of-no-kind : (x : FlatObject) → decodedNumber (decodeOf (wordIn (encodedRaised (raisedOf x)))) ≡ 12 ↔ (4 < x .kind)
 twelve-of-no-kind x = (
   (λ e. raise-refuses x .0 (sym (word-number (raisedOf x)) ∙ e)),
@@ -74,7 +73,7 @@ pub no-kind-not-5-V : isFixed5V 0xF0000000 ≡ false
 unfolding isFixed5V decodeOf bits
 no-kind-not-5-V = refl
 
-unknown-is : (r : Raised) → raisedNumber r ≡ 12 → r ≡ Unknown
+pub unknown-is : (r : Raised) → raisedNumber r ≡ 12 → r ≡ Unknown
 unknown-is (Known o) e = let z : _≡_ {A = ℕ} 0 12 = e in absurd (omega arith)
 unknown-is Unknown e = refl
 

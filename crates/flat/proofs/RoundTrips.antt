@@ -13,10 +13,8 @@ use Rattle.verdicts.proofs.First.{NoneApply, none-right}
 use Rattle.objects.specs.declared.Object.{Object}
 use Rattle.objects.specs.Decode.{decodeOf, decodedNumber}
 use Rattle.objects.specs.Encode.{encodeOf}
-use Rattle.lists.specs.declared.Words.{Words}
 use Rattle.lists.specs.declared.Place.{Place}
 use Rattle.lists.specs.declared.Objects.{Objects}
-use Rattle.lists.specs.declared.Listing.{Listing}
 use Rattle.lists.specs.Seven.{placeTo, sevenTo}
 use Rattle.lists.specs.Shape.{badCount, shapeRefusals}
 use Rattle.lists.specs.Reading.{emptyPlace}

@@ -12,7 +12,7 @@ use Rattle.objects.specs.Decode.{zeroObject}
 use Rattle.flat.specs.declared.FlatObject.{FlatObject}
 use Rattle.flat.specs.declared.Raised.{Raised}
 use Rattle.flat.specs.declared.Raised.the-variants.{Known, Unknown}
-use Rattle.flat.specs.Flat.{raisedBy, raisedOf, raisedSays, raiseSays}
+use Rattle.flat.specs.Flat.{raisedBy, raisedOf, raisedSays, flatSays}
 use Rattle.flat.specs.Promises.{Raises}
 
 pub raised-one : (r s : Raised) → raisedSays r ≡ raisedSays s → r ≡ s
@@ -26,9 +26,9 @@ raised-one = one-answer raisedSays back same where
   same Unknown = refl
 
 -- what is to be said of a flat object is what the definition's answer says
-pub raise-says : (x : FlatObject) → raiseSays x ≡ raisedSays (raisedOf x)
+pub flat-says : (x : FlatObject) → flatSays x ≡ raisedSays (raisedOf x)
 unfolding raisedOf
-raise-says x = go (x .kind) where
+flat-says x = go (x .kind) where
   go : (k : ℕ) → cond (ltb 4 k) (12, zeroObject) (0, raisedSays (raisedBy k x) .1) ≡ raisedSays (raisedBy k x)
   go zero = refl
   go (suc zero) = refl
@@ -38,4 +38,4 @@ raise-says x = go (x .kind) where
   go (suc (suc (suc (suc (suc k))))) = ap (λ (b : Bool). cond b (12, zeroObject) (0, zeroObject)) (lt-ltb 4 (suc (suc (suc (suc (suc k))))) (omega arith))
 
 pub raised-is : (x : FlatObject) (r : Raised) → Raises x r → r ≡ raisedOf x
-raised-is x r e = raised-one r (raisedOf x) (e ∙ raise-says x)
+raised-is x r e = raised-one r (raisedOf x) (e ∙ flat-says x)

@@ -80,12 +80,9 @@ abbrev pub raisedSays : Raised → ℕ × Object
 raisedSays (Known o) = (0, o)
 raisedSays Unknown = (12, zeroObject)
 
-abbrev pub raisedNumber : Raised → ℕ
-raisedNumber r = raisedSays r .0
-
--- what is to be said of a flat object: a number above the five is no kind
-abbrev pub raiseSays : FlatObject → ℕ × Object
-raiseSays x = cond (ltb 4 (x .kind)) (12, zeroObject) (0, raisedSays (raisedOf x) .1)
+-- what is to be said of a flat object: a number above 4 is no kind
+abbrev pub flatSays : FlatObject → ℕ × Object
+flatSays x = cond (ltb 4 (x .kind)) (12, zeroObject) (0, raisedSays (raisedOf x) .1)
 
 -- ---- a flat object with its own fields alone: the others are zero
 

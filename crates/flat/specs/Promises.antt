@@ -8,7 +8,7 @@ use Rattle.flat.specs.declared.FlatObject.{FlatObject}
 use Rattle.flat.specs.declared.FlatObjects.{FlatObjects}
 use Rattle.flat.specs.declared.FlatReading.{FlatReading}
 use Rattle.flat.specs.declared.Raised.{Raised}
-use Rattle.flat.specs.Flat.{flatOf, raisedSays, raiseSays}
+use Rattle.flat.specs.Flat.{flatOf, raisedSays, flatSays}
 use Rattle.flat.specs.Reading.{flatReadingOf}
 use Rattle.flat.specs.Writing.{flatWriteOf}
 
@@ -16,7 +16,7 @@ abbrev pub Flattens : Object → FlatObject → Type 0
 Flattens o r = r ≡ flatOf o
 
 abbrev pub Raises : FlatObject → Raised → Type 0
-Raises x r = raisedSays r ≡ raiseSays x
+Raises x r = raisedSays r ≡ flatSays x
 
 abbrev pub FlatReads : Words → FlatReading → Type 0
 FlatReads l r = r ≡ flatReadingOf l

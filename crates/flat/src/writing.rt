@@ -17,7 +17,7 @@ use verdicts::Verdict;
 
 // A word of the kind 1111b, which no list may have. It stands for a flat object of no kind, so that the shape of the words refuses that
 // one in its turn.
-const NO_KIND: u32 = 0xF000_0000;
+const NO_KIND: u32 = objects::BITS_UNASSIGNED << 28;
 
 fn encode_flat(flat: FlatObject) -> Encoded
     ensures { λ r. ⌜ encodedSays r ≡ encodedSays (encodedRaised (raisedOf flat)) ⌝ }

@@ -31,7 +31,7 @@ wordsFrom made n = record { words = sevenTo (λ (k : ℕ). wordIn (made k)) 0 n;
 abbrev pub noWords : Words
 noWords = record { words = replicate 7 0; count = 0 }
 
--- "10, then 7 .., then the shape of the words made"
+-- 10, 7, then the shape of the words made: "10, 7, 11, then word by word 12, 13, 15, 16, 14, then 17"
 abbrev pub writingRefusals : (ℕ → Encoded) → ℕ → List Refusal
 writingRefusals made n = refusal (badCount n) 10 0 ∷ (eachPlace (wideRows made) n ++ shapeRefusals (wordsFrom made n))
 

@@ -1,6 +1,6 @@
 -- `decodeOf` by the numbers in the kind's bits, and by the one number that `kindBits` makes of them.
 -- Assumes nothing.
-use mathlib.Core.Path.{_≡_, refl, ap, sym, _∙_}
+use mathlib.Core.Path.{_≡_, refl, ap, sym, _∙_, subst}
 use mathlib.Core.Bool.{Bool, true, false, cond}
 use mathlib.Core.Logic.{_⊎_, inl, inr, ⊎-elim}
 use Prim.Native.Nat.{ℕ, zero, suc, _+_, _*_, _/_, _%_, _^_, _≤_, _<_}
@@ -10,7 +10,10 @@ use lib.Dec.{eqb}
 use borrow.Author.Tests.{eqb-true, eqb-false, ne-eqb}
 use Rattle.objects.specs.Bits.{bits}
 use Rattle.objects.specs.Decode.{byAugmented, byKind, kindBits, isKind, decodeOf}
+use Rattle.objects.specs.declared.Object.{Object}
+use Rattle.objects.specs.declared.Object.the-variants.{Fixed, Battery, Variable, Pps, Avs}
 use Rattle.objects.specs.declared.Decoded.{Decoded}
+use Rattle.objects.specs.declared.Decoded.the-variants.{Known, NotAllowed}
 use Rattle.objects.proofs.Taking.{bits-lt}
 
 pub kind-is : (w k : ℕ) → bits w 31 30 ≡ k → decodeOf w ≡ byKind k w
@@ -94,3 +97,47 @@ module _ (w : ℕ) where
       ne-eqb (bits w 31 28) kind (λ e. omega (arith, four w, x .1, bits-lt w 29 28, h, e))
       ∙ sym (ne-eqb (kindBits w) kind (λ e. omega (arith, x .0, x .1, h, e))))
       (λ x. ap (λ (n : ℕ). eqb n kind) (sym (kind-long (x .0)))) short-or-long
+
+-- ---- the number of a kind agrees with what a word is decoded to
+
+-- the number of each kind
+abbrev pub kindNumber : Object → ℕ
+kindNumber (Fixed f p v a) = 0
+kindNumber (Battery x m p) = 1
+kindNumber (Variable x m a) = 2
+kindNumber (Pps l x m a) = 12
+kindNumber (Avs p l h) = 14
+
+-- of what a word is decoded to: that of its object, or one of the two that are not allowed
+abbrev Tells : ℕ → Decoded → Type 0
+Tells n (Known o) = n ≡ kindNumber o
+Tells n NotAllowed = (n ≡ 13) ⊎ (n ≡ 15)
+
+short-tells : (k w : ℕ) → k < 3 → Tells k (byKind k w)
+short-tells zero w h = refl
+short-tells (suc zero) w h = refl
+short-tells (suc (suc zero)) w h = refl
+short-tells (suc (suc (suc k))) w h = absurd (omega arith)
+
+long-tells : (m w : ℕ) → m < 4 → Tells (12 + m) (byAugmented m w)
+long-tells zero w h = refl
+long-tells (suc zero) w h = inl refl
+long-tells (suc (suc zero)) w h = refl
+long-tells (suc (suc (suc zero))) w h = inr refl
+long-tells (suc (suc (suc (suc m)))) w h = absurd (omega arith)
+
+tells : (w : ℕ) → Tells (kindBits w) (decodeOf w)
+tells w =
+    ⊎-elim
+    (λ x. both (x .0) (kind-is w (bits w 31 30) refl) (short-tells (bits w 31 30) w (x .1)))
+    (λ x. both (x .1) (augmented-is w (bits w 29 28) (x .0) refl) (long-tells (bits w 29 28) w (bits-lt w 29 28)))
+    (short-or-long w)
+  where
+    both : {n k : ℕ} {d e : Decoded} → n ≡ k → d ≡ e → Tells k e → Tells n d
+    both {n} {k} {d} {e} p q t = subst (λ (c : Decoded). Tells n c) (sym q) (subst (λ (j : ℕ). Tells j e) (sym p) t)
+
+pub kind-of-object : (w : ℕ) (o : Object) → decodeOf w ≡ Known o → kindBits w ≡ kindNumber o
+kind-of-object w o e = subst (Tells (kindBits w)) e (tells w)
+
+pub kind-of-none : (w : ℕ) → decodeOf w ≡ NotAllowed → (kindBits w ≡ 13) ⊎ (kindBits w ≡ 15)
+kind-of-none w e = subst (Tells (kindBits w)) e (tells w)

@@ -74,10 +74,10 @@ decodedNumber d = decodedSays d .0
 
 -- "1101b (EPR AVS) and 1111b are not allowed in an SPR list."
 abbrev pub kindNotAllowed : ℕ → Bool
-kindNotAllowed w = eqb (bits w 31 30) 3 && (eqb (bits w 29 28) 1 || eqb (bits w 29 28) 3)
+kindNotAllowed w = isKind w 0xD || isKind w 0xF
 
-abbrev pub decodeSays : ℕ → ℕ × Object
-decodeSays w = cond (kindNotAllowed w) (12, zeroObject) (0, decodedSays (decodeOf w) .1)
+abbrev pub wordSays : ℕ → ℕ × Object
+wordSays w = cond (kindNotAllowed w) (12, zeroObject) (0, decodedSays (decodeOf w) .1)
 
 -- ---- reserved bits, by the kind and by whether the word is the first of its list
 

@@ -54,5 +54,5 @@ abbrev pub encodedNumber : Encoded → ℕ
 encodedNumber e = encodedSays e .0
 
 -- what is to be said of an object
-abbrev pub encodeSays : Object → ℕ × ℕ
-encodeSays o = cond (allFit (fieldsOf o)) (0, joined (fieldsOf o)) (7, 0)
+abbrev pub objectSays : Object → ℕ × ℕ
+objectSays o = cond (allFit (fieldsOf o)) (0, joined (fieldsOf o)) (7, 0)

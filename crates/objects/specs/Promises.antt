@@ -6,17 +6,17 @@ use Prim.Native.Nat.{ℕ}
 use Rattle.objects.specs.declared.Object.{Object}
 use Rattle.objects.specs.declared.Decoded.{Decoded}
 use Rattle.objects.specs.declared.Encoded.{Encoded}
-use Rattle.objects.specs.Decode.{isKind, decodedSays, decodeSays, reservedSet}
-use Rattle.objects.specs.Encode.{encodedSays, encodeSays}
+use Rattle.objects.specs.Decode.{isKind, decodedSays, wordSays, reservedSet}
+use Rattle.objects.specs.Encode.{encodedSays, objectSays}
 
 abbrev pub TellsKind : ℕ → ℕ → Bool → Type 0
 TellsKind w kind r = r ≡ isKind w kind
 
 abbrev pub Decodes : ℕ → Decoded → Type 0
-Decodes w r = decodedSays r ≡ decodeSays w
+Decodes w r = decodedSays r ≡ wordSays w
 
 abbrev pub TellsReserved : Object → Bool → ℕ → Bool → Type 0
 TellsReserved o first w r = r ≡ reservedSet o first w
 
 abbrev pub Encodes : Object → Encoded → Type 0
-Encodes o r = encodedSays r ≡ encodeSays o
+Encodes o r = encodedSays r ≡ objectSays o

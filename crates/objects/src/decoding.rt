@@ -91,8 +91,8 @@ pub fn decode(w: u32) -> Decoded
     }
 }
 
-// Whether a word is of a kind, one of the seven numbers; of any other no word is. For a caller that needs no object: the
-// number is known there, so one test is left.
+// Whether a word is of this kind, given by one of the seven numbers; no word is of any other. For a caller that needs no
+// object and knows the number: one test is left.
 pub fn is_kind(w: u32, kind: u32) -> bool
     ensures { λ r. ⌜ TellsKind w kind r ⌝ }
 {

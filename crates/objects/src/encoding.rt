@@ -3,6 +3,10 @@ ghost use Rattle.objects.specs.Promises.{Encodes};
 ghost use Rattle.objects.specs.Encode.{wordOf, threeFields};
 ghost use mathlib.Core.Path.{_≡_};
 ghost use Prim.Native.Nat.{_<_};
+use crate::BITS_AVS;
+use crate::BITS_BATTERY;
+use crate::BITS_PPS;
+use crate::BITS_VARIABLE;
 use crate::Encoded;
 use crate::Object;
 use steps::Ma10;
@@ -72,7 +76,7 @@ pub fn pps_word(limited: u8, max: Mv100, min: Mv100, current: Ma50) -> Encoded
             | ((min.0 as u32) << 8)
             | ((max.0 as u32) << 17)
             | ((limited as u32) << 27)
-            | (0xC << 28),
+            | (BITS_PPS << 28),
     )
 }
 
@@ -89,7 +93,9 @@ pub fn avs_word(peak: u8, low: Ma10, high: Ma10) -> Encoded
     if 4 <= peak {
         return Encoded::TooWide;
     }
-    Encoded::Word((high.0 as u32) | ((low.0 as u32) << 10) | ((peak as u32) << 26) | (0xE << 28))
+    Encoded::Word(
+        (high.0 as u32) | ((low.0 as u32) << 10) | ((peak as u32) << 26) | (BITS_AVS << 28),
+    )
 }
 
 // The word of an object, with every reserved bit zero.
@@ -103,8 +109,13 @@ pub fn encode(o: Object) -> Encoded
             volts,
             current,
         } => fixed_word(flags, peak, volts, current),
-        Object::Battery { max, min, power } => three_word(1, max.0, min.0, power.0),
-        Object::Variable { max, min, current } => three_word(2, max.0, min.0, current.0),
+        Object::Battery { max, min, power } => three_word(BITS_BATTERY, max.0, min.0, power.0),
+        Object::Variable { max, min, current } => three_word(
+            BITS_VARIABLE,
+            max.0,
+            min.0,
+            current.0,
+        ),
         Object::Pps {
             limited,
             max,

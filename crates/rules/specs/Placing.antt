@@ -20,10 +20,10 @@ placedSays NoPlace = (20, 0)
 abbrev pub placeSays : Words → ℕ → ℕ × ℕ
 placeSays l place = cond (within 1 (l .count) place) (0, getD (l .words) (place - 1) 0) (20, 0)
 
+-- ---- as the code goes: the answer itself, and by the place from 0, of the first n places of a port's full list
+
 unfoldable pub placedIn : Words → ℕ → Placed
 placedIn l place = cond (within 1 (l .count) place) (Word (getD (l .words) (place - 1) 0)) NoPlace
-
--- ---- as the code goes: by the place from 0, of the first n places of a port's full list
 
 unfoldable pub fullAt : Profile → ℕ → ℕ → Placed
 fullAt p n at = cond (ltb at n) (Word (wordFor p at)) NoPlace

@@ -3,15 +3,15 @@
 use mathlib.Core.Path.{_≡_, refl, ap, sym, _∙_}
 use Rattle.flat.specs.declared.FlatObject.{FlatObject}
 use Rattle.flat.specs.declared.Raised.{Raised}
-use Rattle.flat.specs.Flat.{raisedOf, raisedSays, raiseSays}
-use Rattle.flat.proofs.Saying.{raise-says}
+use Rattle.flat.specs.Flat.{raisedOf, raisedSays, flatSays}
+use Rattle.flat.proofs.Saying.{flat-says}
 use Rattle.flat.proofs.BothWays.{raised-by, raised-unknown}
 use Rattle.flat.proofs.flattening.raise.Statement.{statement}
 use Rattle.flat.proofs.flattening.raise.Tie as tie
 
 -- an answer that is the definition's says what is to be said
-says : (x : FlatObject) (r : Raised) → r ≡ raisedOf x → raisedSays r ≡ raiseSays x
-says x r e = ap raisedSays e ∙ sym (raise-says x)
+says : (x : FlatObject) (r : Raised) → r ≡ raisedOf x → raisedSays r ≡ flatSays x
+says x r e = ap raisedSays e ∙ sym (flat-says x)
 
 returns : tie.Need-returns
 returns c = says _ _ (sym (raised-by _ 0 (c .before .before .match .keys1)))

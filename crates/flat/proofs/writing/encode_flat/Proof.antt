@@ -4,7 +4,7 @@ use borrow.Author.Needs.{needs}
 use mathlib.Core.Path.{ap, sym, _∙_}
 use Prim.Native.Nat.{ℕ}
 use Rattle.objects.specs.Encode.{encodedSays}
-use Rattle.objects.proofs.Saying.{encode-says}
+use Rattle.objects.proofs.Saying.{object-says}
 use Rattle.flat.specs.declared.Raised.{Raised}
 use Rattle.flat.specs.Writing.{encodedRaised}
 use Rattle.flat.proofs.Saying.{raised-is}
@@ -32,7 +32,7 @@ encode-requires c κs = search needs
 returns-2 : tie.Need-returns-2
 returns-2 c =
     c .encode .ensures
-    ∙ encode-says (c .before .before .raised .given .0 .0)
+    ∙ object-says (c .before .before .raised .given .0 .0)
     ∙ ap said (sym (c .before .before .raised .given .1) ∙ raised-is _ _ (c .before .before .before .before .raise .ensures))
 
 pub encode-flat-spec : {M : Type 1} → statement M

@@ -1,13 +1,13 @@
 -- `flat::writing::encode_places` meets its contract: the invariant is that no object passed is too wide, and the words so far are made.
 -- Assumes nothing.
 use borrow.Author.Needs.{needs}
-use mathlib.Core.Path.{_≡_, refl, ap, ap₂, sym, _∙_, subst}
+use mathlib.Core.Path.{_≡_, ap, ap₂, sym, _∙_, subst}
 use mathlib.Core.List.{List, []}
-use Prim.Native.Nat.{ℕ, _+_, _-_, _≤_, _<_}
+use Prim.Native.Nat.{ℕ, _+_, _-_, _≤_}
 use native.Mathlib.Omega.{arith}
 use lib.Dec.{eqb}
 use lib.ListN.{set}
-use Rattle.verdicts.specs.Refusals.{eachPlace, firstOf, verdict, success}
+use Rattle.verdicts.specs.Refusals.{eachPlace, success}
 use Rattle.verdicts.proofs.First.{NoneApply, hit, none-yet, none-more, all-missed, decided}
 use Rattle.objects.specs.declared.Encoded.{Encoded}
 use Rattle.objects.specs.Encode.{encodedNumber}

@@ -15,7 +15,7 @@ use Rattle.objects.proofs.Saying.{encoded-is}
 use Rattle.lists.specs.Seven.{sevenTo}
 use Rattle.lists.specs.declared.Listing.{Listing}
 use Rattle.lists.specs.Reading.{emptyPlace}
-use Rattle.lists.specs.Writing.{encodedAt, wideRows, wordIn, wordsOf, writeRefused}
+use Rattle.lists.specs.Writing.{encodedAt, wideRows, wordIn, writeRefused}
 use Rattle.lists.specs.Making.{madeFrom}
 use Rattle.lists.proofs.Sevens.{none-filled, one-filled}
 use Rattle.lists.proofs.write_list.encode_places.Statement.{statement}

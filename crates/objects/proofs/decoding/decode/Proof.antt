@@ -5,10 +5,10 @@ use mathlib.Core.Path.{_≡_, _∙_, sym, ap}
 use Prim.Native.Nat.{ℕ, _+_}
 use native.Mathlib.Omega.{arith}
 use Rattle.objects.specs.Bits.{bits}
-use Rattle.objects.specs.Decode.{byAugmented, decodeOf, decodedSays, decodeSays}
+use Rattle.objects.specs.Decode.{byAugmented, decodeOf, decodedSays, wordSays}
 use Rattle.objects.specs.declared.Decoded.{Decoded}
 use Rattle.objects.specs.declared.Decoded.the-variants.{Known}
-use Rattle.objects.proofs.Saying.{decode-says}
+use Rattle.objects.proofs.Saying.{word-says}
 use Rattle.objects.proofs.Taking.{taken, bits-lt}
 use Rattle.objects.proofs.Cases.{kind-is, augmented-is, last-two, no-other-kind}
 use Rattle.objects.proofs.decoding.decode.Statement.{statement}
@@ -25,8 +25,8 @@ is-augmented c =
     omega (arith, bits-lt w 31 30, a, b, d)
 
 -- an answer that is the definition's says what is to be said
-says : (w : ℕ) (r : Decoded) → r ≡ decodeOf w → decodedSays r ≡ decodeSays w
-says w r e = ap decodedSays e ∙ sym (decode-says w)
+says : (w : ℕ) (r : Decoded) → r ≡ decodeOf w → decodedSays r ≡ wordSays w
+says w r e = ap decodedSays e ∙ sym (word-says w)
 
 -- 11b with its last two bits
 augmented : (c : tie.At-match-rest) (m : ℕ) → bits (c .before .args .w) 31 28 ≡ 12 + m → decodeOf (c .before .args .w) ≡ byAugmented m (c .before .args .w)

@@ -2,8 +2,8 @@
 -- Assumes nothing.
 use borrow.Author.Needs.{needs}
 use mathlib.Core.Path.{_≡_, _∙_, ap, sym}
-use Rattle.objects.specs.Encode.{encodeOf, encodedSays, encodeSays}
-use Rattle.objects.proofs.Saying.{encode-says}
+use Rattle.objects.specs.Encode.{encodeOf, encodedSays, objectSays}
+use Rattle.objects.proofs.Saying.{object-says}
 use Rattle.objects.proofs.encoding.encode.Statement.{statement}
 use Rattle.objects.proofs.encoding.encode.Tie as tie
 
@@ -38,21 +38,21 @@ avs-word-requires : tie.Need-avs-word-requires
 avs-word-requires c κs = search needs
 
 returns : tie.Need-returns
-returns c = c .fixed-word .ensures ∙ ap encodeSays (sym (c .before .before .o .given .1))
+returns c = c .fixed-word .ensures ∙ ap objectSays (sym (c .before .before .o .given .1))
 
 returns-2 : tie.Need-returns-2
 returns-2 c =
-    ap encodedSays (c .three-word .ensures ∙ ap encodeOf (sym (c .before .before .o2 .given .1))) ∙ sym (encode-says (c .before .before .before .before .args .o))
+    ap encodedSays (c .three-word .ensures ∙ ap encodeOf (sym (c .before .before .o2 .given .1))) ∙ sym (object-says (c .before .before .before .before .args .o))
 
 returns-3 : tie.Need-returns-3
 returns-3 c =
-    ap encodedSays (c .three-word2 .ensures ∙ ap encodeOf (sym (c .before .before .o3 .given .1))) ∙ sym (encode-says (c .before .before .before .before .args .o))
+    ap encodedSays (c .three-word2 .ensures ∙ ap encodeOf (sym (c .before .before .o3 .given .1))) ∙ sym (object-says (c .before .before .before .before .args .o))
 
 returns-4 : tie.Need-returns-4
-returns-4 c = c .pps-word .ensures ∙ ap encodeSays (sym (c .before .before .o4 .given .1))
+returns-4 c = c .pps-word .ensures ∙ ap objectSays (sym (c .before .before .o4 .given .1))
 
 returns-5 : tie.Need-returns-5
-returns-5 c = c .avs-word .ensures ∙ ap encodeSays (sym (c .before .before .o5 .given .1))
+returns-5 c = c .avs-word .ensures ∙ ap objectSays (sym (c .before .before .o5 .given .1))
 
 pub encode-spec : {M : Type 1} → statement M
 encode-spec =
