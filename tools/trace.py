@@ -9,7 +9,7 @@ statement, with <br> between one quotation and the next:
     rows A .. B of the table H                      table rows by their first cells (`;` between several); the table's head begins with H
     *words of our own*                              beside the statement, not looked for
 
-No sentence and no table row of the statement is left out. Beyond the first column each name in backticks is in the code of crates/,
+No sentence and no table row below a heading of the statement is left out. Beyond the first column each name in backticks is in the code of crates/,
 each file is there, and the cases named behind a file of cases (`file`: one; another .. to a third) are words of that file.
 """
 
@@ -95,7 +95,7 @@ class Part:
             self.tables.append((", ".join(plain(cell) for cell in head), keys))
 
     def take(self, block, line):
-        for sentence in re.split(r"(?<=\.)\s+(?=[A-Z(*`\[])", block):
+        for sentence in re.split(r"(?<=\.)\s+(?=[A-Z0-9(*`\[])", block):
             start = len(self.text)
             self.text += plain(sentence) + " "
             # "It", before a list, and the number of a refusal, behind a sentence, say nothing by themselves.
@@ -261,6 +261,10 @@ def main(words):
         print("trace: expected one folder or nothing (--help tells)", file=sys.stderr)
         return 2
     root = Path(words[0] if words else Path(__file__).parent.parent).resolve()
+    missing = [name for name in (STATEMENT, TRACE, "crates") if not (root / name).exists()]
+    if missing:
+        print(f"trace: there is no {missing[0]} in {root}", file=sys.stderr)
+        return 2
     faults, texts, looked = [], {}, 0
     sections = sections_of(root / TRACE)
     rows = judge_statement(root, sections, faults)
