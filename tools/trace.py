@@ -19,7 +19,6 @@ from pathlib import Path
 
 STATEMENT = "docs/STATEMENT.md"
 TRACE = "docs/TRACE.md"
-ENDINGS = (".txt", ".rs", ".c", ".py", ".out", ".sh", ".rt", ".antt", ".md")
 # What is behind the colon of these is words of the file; behind that of any other file it is a remark.
 CASES = re.compile(r"\w+\.txt|worked/.*|rust/tests/differential/.*|tests/c/calls\.c|cases")
 NAME = re.compile(r"[A-Za-z_][\w-]*(::[A-Za-z_]\w*)*")
@@ -198,7 +197,7 @@ def names_of_code(root):
 
 
 def is_file(name):
-    return "/" in name or name.endswith(ENDINGS)
+    return "/" in name or re.fullmatch(r"\w+(\.\w+)+", name)
 
 
 def file_of(root, name):
