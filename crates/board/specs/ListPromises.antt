@@ -1,4 +1,5 @@
--- What each call over lists and requests promises of its answer: the definition of the floor below. The contracts cite these names, and so do the theorems over them.
+-- What each call over lists and requests promises of its answer (STATEMENT, "Lists in hand" to "Answering a request"): the definition of
+-- the floor below. The contracts cite these names, and so do the theorems over them.
 -- Assumes nothing.
 use mathlib.Core.Path.{_≡_}
 use Prim.Native.Nat.{ℕ}

@@ -1,5 +1,5 @@
--- What each sharing call promises of its answer r and of the rows: ys at entry, zs at exit. The contracts cite these names, and so do
--- the theorems over them. "Each call is given the capacity."
+-- What each sharing call promises of its answer r and of the rows, ys at entry and zs at exit (STATEMENT, "Calls").
+-- The contracts cite these names, and so do the theorems over them.
 -- Assumes nothing.
 use mathlib.Core.Path.{_≡_}
 use mathlib.Core.List.{List}

@@ -1,4 +1,4 @@
--- What the functions over the lent rows do to them.
+-- What the functions over the lent rows do to them (STATEMENT, "Rows").
 -- Assumes nothing.
 use mathlib.Core.List.{List}
 use Prim.Native.Nat.{ℕ, zero, suc}

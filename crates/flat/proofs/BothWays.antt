@@ -54,7 +54,7 @@ flat-raise x o e = go (x .kind) e where
 pub flat-raise-same : (x : FlatObject) (o : Object) → raisedOf x ≡ Known o → ownFields x ≡ x → flatOf o ≡ x
 flat-raise-same x o e own = flat-raise x o e ∙ own
 
--- 01's number of an answer
+-- the refusal number of an answer
 abbrev pub raisedNumber : Raised → ℕ
 raisedNumber r = raisedSays r .0
 

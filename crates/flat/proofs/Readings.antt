@@ -69,7 +69,7 @@ module _ (l : Words) where
   unfolding flatReadingOf
   flat-read-list = refl
 
-  -- "A refusal returns its number, the place, and zero for all else, an empty list included"
+  -- "On a refusal everything else in the answer is zero, a list is empty"
   pub flat-read-empty : (flatReadingOf l .verdict ≡ success → ⊥) → flatReadingOf l .list ≡ noFlat
   flat-read-empty f = flat-read-list ∙ ap flatObjects (read-empty l (λ z. f (flat-read-verdict ∙ z))) ∙ no-flat
 
@@ -80,7 +80,7 @@ module _ (l : Words) where
       (λ n p k h. ap (λ (ps : List Place). getD ps k emptyPlace) (none-filled (placeOf (l .words)) emptyPlace) ∙ past-filled (placeOf (l .words)) emptyPlace 0 k h)
       (λ k h. past-filled (placeOf (l .words)) emptyPlace (l .count) k h)
 
-  -- "places past the count are returned as zero (an object as fixed, all fields zero)"
+  -- "in a list of objects such a place is a fixed object with all its fields zero"
   pub flat-read-past : (k : ℕ) → flatReadingOf l .list .count ≤ k → getD (flatReadingOf l .list .places) k emptyFlat ≡ emptyFlat
   unfolding flatReadingOf
   flat-read-past k h = go (ltb k 7) refl where

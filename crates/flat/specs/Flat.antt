@@ -1,5 +1,5 @@
--- One struct for all five kinds (01, "Object words": "A decoded object is one of five kinds with the fields of its own kind").
--- A field that a kind does not have is zero, and is not read.
+-- One struct for all five kinds (STATEMENT, "Lists in hand"). "Fields that the kind does not have are not looked at, and are zero in what
+-- is given back."
 -- Assumes nothing.
 use mathlib.Core.Bool.{cond}
 use Prim.Native.Nat.{ℕ, zero, suc}
@@ -34,7 +34,7 @@ noMa50 = record { 0 = 0 }
 abbrev pub noMw250 : Mw250
 noMw250 = record { 0 = 0 }
 
--- the kinds have the numbers 0 to 4, in the order of 01's list; fixed is 0, so that an empty place is all zero
+-- "0 fixed, 1 battery, 2 variable, 3 PPS, 4 AVS": fixed is 0, so that an empty place is all zero
 abbrev pub flatFixed : ℕ → ℕ → Mv50 → Ma10 → FlatObject
 flatFixed f p v a =
     record { kind = 0; flags = f; peak = p; limited = 0; volts = v; max = noMv50; min = noMv50; power = noMw250; current = a; max100 = noMv100; min100 = noMv100; current50 = noMa50; low = noMa10; high = noMa10 }
@@ -75,7 +75,8 @@ raisedBy (suc (suc (suc (suc (suc k))))) x = Unknown
 unfoldable pub raisedOf : FlatObject → Raised
 raisedOf x = raisedBy (x .kind) x
 
--- What each answer says: 01's number, and the object. 12: "kind not allowed". "A refusal returns its number .. and zero for all else."
+-- What each answer says: its refusal number, and the object. 12: "a kind that is not allowed". "On a refusal everything else in the
+-- answer is zero".
 abbrev pub raisedSays : Raised → ℕ × Object
 raisedSays (Known o) = (0, o)
 raisedSays Unknown = (12, zeroObject)

@@ -1,4 +1,4 @@
--- A flat list as it is returned: the own fields of each object up to the count, zero past it.
+-- A flat list as it is returned (STATEMENT, "Lists in hand"): the own fields of each object up to the count, zero past it.
 -- Assumes nothing.
 use Prim.Native.Nat.{ℕ}
 use lib.ListN.{getD, replicate}

@@ -1,4 +1,4 @@
--- Reading a list as flat objects: what `lists` reads, each place flattened.
+-- Reading a list as flat objects (STATEMENT, "Lists in hand"): what `lists` reads, each place flattened.
 -- Assumes nothing.
 use mathlib.Core.List.{List}
 use Prim.Native.Nat.{ℕ}
@@ -14,7 +14,7 @@ use Rattle.flat.specs.declared.FlatObjects.{FlatObjects}
 use Rattle.flat.specs.declared.FlatReading.{FlatReading}
 use Rattle.flat.specs.Flat.{noMv50, noMa10, flatFixed, flatOf}
 
--- "places past the count are returned as zero (an object as fixed, all fields zero)"
+-- "in a list of objects such a place is a fixed object with all its fields zero"
 abbrev pub emptyFlat : FlatObject
 emptyFlat = flatFixed 0 0 noMv50 noMa10
 

@@ -1,5 +1,5 @@
--- Writing a list of flat objects (01, "What the library covers": "Writing checks the count, then each object for a field too wide, then
--- the shape of the words made"), in the order of every list: 10, 7, 11, then word by word 12, 13, 15, 16, 14, then 17.
+-- Writing a list of flat objects (STATEMENT, "Lists in hand"), in the order of every list: "10; 7 at the first such object; then as shape
+-- from 11 on".
 -- Assumes nothing.
 use mathlib.Core.List.{List}
 use Prim.Native.Nat.{ℕ}
@@ -23,8 +23,8 @@ use Rattle.flat.specs.Reading.{emptyFlat}
 abbrev pub raisedAt : List FlatObject → ℕ → Raised
 raisedAt fs k = raisedOf (getD fs k emptyFlat)
 
--- What it is written as. A kind number that is no kind stands as a word of 1111b, which is "not allowed in an SPR list": it has no field
--- that is too wide, it is not fixed 5 V, and it is refused with 12 where the words are gone through.
+-- "An object with another kind number has no field that could be too wide; for the shape it stands as a word of kind 1111b, so it gets 11
+-- where it is the first object and 12 in its turn elsewhere."
 abbrev pub encodedRaised : Raised → Encoded
 encodedRaised (Known o) = encodeOf o
 encodedRaised Unknown = Word 0xF0000000
@@ -32,7 +32,7 @@ encodedRaised Unknown = Word 0xF0000000
 abbrev pub encodedFlatAt : List FlatObject → ℕ → Encoded
 encodedFlatAt fs k = encodedRaised (raisedAt fs k)
 
--- places past the count are not read
+-- "Only the places up to the count are looked at."
 abbrev pub flatWords : FlatObjects → Words
 flatWords f = wordsFrom (encodedFlatAt (f .places)) (f .count)
 

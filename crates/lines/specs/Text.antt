@@ -1,5 +1,5 @@
--- What is printed, as bytes of ASCII: decimal numbers, words as 8 capital hex digits, and the line of a listing (01, "The listing
--- program"): "the refusal number, the count, then each word as 8 capital hex digits, one space between fields".
+-- What is printed, as bytes of ASCII: decimal numbers, words "as eight hex digits in capitals", and the line of a listing (STATEMENT,
+-- "The listing program").
 -- Assumes nothing.
 use mathlib.Core.Path.{_≡_}
 use mathlib.Core.Bool.{cond}
@@ -40,7 +40,7 @@ abbrev pub hexDigits : ℕ → ℕ → List ℕ
 hexDigits zero w = []
 hexDigits (suc n) w = hexDigits n w ++ (hexDigit (w / 2 ^ (28 - 4 * n) % 16) ∷ [])
 
--- a word as 8 capital hex digits
+-- a word "as eight hex digits in capitals"
 unfoldable pub hexWord : ℕ → List ℕ
 hexWord w = hexDigits 8 w
 

@@ -19,7 +19,7 @@ module _ (l : Words) where
   unfolding shapeOf
   shape-success e = passes (shapeRefusals l) (shape-numbered l) e
 
-  -- "Reading a list refuses as its shape check does."
+  -- "It refuses exactly what the shape check refuses, with the same number and place."
   pub read-verdict : readOf l .verdict ≡ shapeOf l
   unfolding readOf shapeOf
   read-verdict = onto (λ (r : Reading). r .verdict) readRefused (shapeRefusals l) (readAs l)
@@ -35,7 +35,7 @@ module _ (l : Words) where
   pub read-passes : shapeOf l .number ≡ 0 → readOf l ≡ readAs l
   read-passes e = read-clear (none-of l e)
 
-  -- "A refusal returns its number, the place, and zero for all else, an empty list included"
+  -- "On a refusal everything else in the answer is zero, a list is empty"
   pub read-empty : (readOf l .verdict ≡ success → ⊥) → readOf l .list ≡ noObjects
   read-empty f =
       ap (λ (r : Reading). r .list) (read-refused (λ z. f (read-verdict ∙ shape-success z)))

@@ -1,4 +1,5 @@
--- A list whose shape passes reads and writes back to the same words; a list that is written reads back to the same objects.
+-- "Reading a list whose shape passes, and writing what was read, gives the same words; and the other way round for objects that can be
+-- written." (STATEMENT, "Shape of a list")
 -- Assumes nothing.
 use mathlib.Core.Path.{_≡_, refl, sym, ap, ap₂, _∙_, subst}
 use mathlib.Core.Bool.{Bool, true, false, not}

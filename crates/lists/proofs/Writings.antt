@@ -81,7 +81,7 @@ module _ (made : ℕ → Encoded) (n : ℕ) where
   pub write-passes : writtenFrom made n .verdict .number ≡ 0 → NoneApply (writingRefusals made n)
   write-passes e = none-applied (writingRefusals made n) write-numbered (sym (ap (λ (v : Verdict). v .number) write-verdict) ∙ e)
 
-  -- "A refusal returns its number, the place, and zero for all else, an empty list included"
+  -- "On a refusal everything else in the answer is zero, a list is empty"
   pub write-empty : (writtenFrom made n .verdict ≡ success → ⊥) → writtenFrom made n .list ≡ noWords
   unfolding writtenFrom
   write-empty f =

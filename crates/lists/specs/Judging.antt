@@ -1,4 +1,5 @@
--- How the loops of the shape check and of writing go: parts of `shapeOf` and `writeOf`, named for the functions that work them out.
+-- How the loops of the shape check and of writing go (STATEMENT, "Shape of a list"): parts of `shapeOf` and `writeOf`, named for the
+-- functions that work them out.
 -- Assumes nothing.
 use mathlib.Core.Path.{_≡_}
 use Prim.Native.Nat.{ℕ}

@@ -1,4 +1,4 @@
--- A list as it is returned (01, "What the library covers"): the same up to the count, zero past it.
+-- A list as it is returned (STATEMENT, "Lists in hand"): the same up to the count, and "the places past its count are zero".
 -- Assumes nothing.
 use Prim.Native.Nat.{ℕ}
 use lib.ListN.{getD}

@@ -1,4 +1,4 @@
--- The words made of objects, before their shape is looked at: a part of `writtenFrom`.
+-- The words made of objects (STATEMENT, "Lists in hand"), before their shape is looked at: a part of `writtenFrom`.
 -- Assumes nothing.
 use Prim.Native.Nat.{ℕ}
 use Rattle.verdicts.specs.Refusals.{eachPlace, firstOf, success}

@@ -1,4 +1,4 @@
--- What the shape of a list asks of its objects (01, "Shape of a list"), in millivolts, milliamperes and watts.
+-- What the shape of a list asks of its objects (STATEMENT, "Shape of a list"), in millivolts, milliamperes and watts.
 -- Assumes nothing.
 use mathlib.Core.Bool.{Bool, true, false, not, _&&_, _||_}
 use Prim.Native.Nat.{ℕ, _*_}
@@ -7,7 +7,8 @@ use Rattle.steps.specs.Units.{mv50, mv100, ma10, mw250}
 use Rattle.objects.specs.declared.Object.{Object}
 use Rattle.objects.specs.declared.Object.the-variants.{Fixed, Battery, Variable, Pps, Avs}
 
--- "Fixed voltage is at most 20 V; battery, variable and PPS max is at most 21 V and min at most max."
+-- "No voltage is out of bounds: that of a fixed object is at most 20 V; the maximum of a battery, a variable and a PPS object is at most
+-- 21 V, and its minimum is not above its maximum."
 abbrev pub withinBounds : Object → Bool
 withinBounds (Fixed f p v a) = leb (mv50 v) 20000
 withinBounds (Battery x m p) = leb (mv50 x) 21000 && leb (mv50 m) (mv50 x)
@@ -22,7 +23,7 @@ outOfBounds o = not (withinBounds o)
 abbrev pub atMost100W : ℕ → Bool
 atMost100W microwatts = leb microwatts 100000000
 
--- "Fixed, variable (at max voltage) and battery power is at most 100 W."
+-- "No fixed, battery or variable object offers more than 100 W". "PPS and AVS have no such bound."
 abbrev pub within100W : Object → Bool
 within100W (Fixed f p v a) = atMost100W (mv50 v * ma10 a)
 within100W (Battery x m p) = atMost100W (mw250 p * 1000)
@@ -33,7 +34,7 @@ within100W (Avs p l h) = true
 unfoldable pub over100W : Object → Bool
 over100W o = not (within100W o)
 
--- "the other fixed .., then battery, then variable .., at most one SPR AVS, PPS"
+-- "first the fixed, then battery, then variable, then AVS, then PPS"
 abbrev pub rankOf : Object → ℕ
 rankOf (Fixed f p v a) = 0
 rankOf (Battery x m p) = 1
@@ -49,7 +50,7 @@ keyOf (Variable x m a) = m .0
 keyOf (Avs p l h) = 0
 keyOf (Pps l x m a) = x .0
 
--- fixed strictly rising; battery, variable and PPS not falling; no second AVS
+-- a fixed voltage "is above that of the one before it"; battery, variable and PPS do not fall; "there is no second AVS"
 abbrev pub keysMayFollow : Object → ℕ → ℕ → Bool
 keysMayFollow (Fixed f p v a) earlier later = ltb earlier later
 keysMayFollow (Battery x m p) earlier later = leb earlier later
@@ -57,6 +58,6 @@ keysMayFollow (Variable x m a) earlier later = leb earlier later
 keysMayFollow (Avs p l h) earlier later = false
 keysMayFollow (Pps l x m a) earlier later = leb earlier later
 
--- whether the second object may stand right after the first
+-- "Each word is compared with the one right before it": whether the second object may stand after the first
 unfoldable pub mayFollow : Object → Object → Bool
 mayFollow before o = ltb (rankOf before) (rankOf o) || (eqb (rankOf before) (rankOf o) && keysMayFollow o (keyOf before) (keyOf o))

@@ -1,4 +1,4 @@
--- Reading a list (01, "What the library covers": "Reading a list refuses as its shape check does").
+-- Reading a list (STATEMENT, "Lists in hand": "It refuses exactly what the shape check refuses, with the same number and place.").
 -- Assumes nothing.
 use mathlib.Core.List.{List}
 use Prim.Native.Nat.{ℕ}
@@ -14,7 +14,7 @@ use Rattle.lists.specs.declared.Reading.{Reading}
 use Rattle.lists.specs.Shape.{shapeRefusals}
 use Rattle.lists.specs.Seven.{sevenTo}
 
--- "places past the count are returned as zero (an object as fixed, all fields zero)"
+-- "in a list of objects such a place is a fixed object with all its fields zero"
 abbrev pub emptyPlace : Place
 emptyPlace = record { object = zeroObject }
 

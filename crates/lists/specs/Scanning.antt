@@ -1,4 +1,4 @@
--- What the word by word part of the shape check hands on to the AVS part.
+-- What the word by word part of the shape check hands on to the AVS part (STATEMENT, "Shape of a list").
 -- Assumes nothing.
 use mathlib.Core.Path.{_≡_}
 use mathlib.Core.List.{List}

@@ -1,4 +1,4 @@
--- Seven places (01, "A list in hand is seven places and a count").
+-- Seven places (STATEMENT, "Lists in hand": "A list, of words or of objects, is seven places and a count.").
 -- Assumes nothing.
 use mathlib.Core.Bool.{cond}
 use mathlib.Core.List.{List, [], _∷_}

@@ -1,4 +1,4 @@
--- The shape of a list (01, "Shape of a list"; numbers and order from "Refusal numbers").
+-- The shape of a list (STATEMENT, "Shape of a list"; numbers and order from "Refusal numbers").
 -- Assumes nothing.
 use mathlib.Core.Bool.{Bool, true, false, not, _&&_, _||_}
 use mathlib.Core.List.{List, [], _∷_, _++_}
@@ -17,21 +17,21 @@ use Rattle.objects.specs.Decode.{decodeOf, decodedNumber, reservedSet}
 use Rattle.lists.specs.declared.Words.{Words}
 use Rattle.lists.specs.ObjectRules.{outOfBounds, over100W, mayFollow}
 
--- 10: "count not 1..7"
+-- 10: "count outside 1 to 7"
 abbrev pub badCount : ℕ → Bool
 badCount n = ltb n 1 || ltb 7 n
 
--- 11: "first object not fixed 5 V"
+-- 11: "the first object is not fixed 5 V"
 unfoldable pub isFixed5V : ℕ → Bool
 isFixed5V w = ofObject (ofFixed (λ v a. eqb (mv50 v) 5000)) (decodeOf w)
 
--- 14 compares a word with the one before it, so it says nothing of the first
+-- 14: "Each word is compared with the one right before it", so it says nothing of the first
 abbrev pub outOfOrder : Bool → Decoded → Decoded → Bool
 outOfOrder true before d = false
 outOfOrder false (Known o) d = ofObject (λ (x : Object). not (mayFollow o x)) d
 outOfOrder false NotAllowed d = false
 
--- one word, with the one before it: "word by word 12, 13, 15, 16, 14"
+-- one word, with the one before it: "for each word in turn 12, 13, 15, 16, 14"
 abbrev pub wordRefusals : Bool → ℕ → Decoded → ℕ → List Refusal
 wordRefusals first place before w =
     refusal (eqb (decodedNumber (decodeOf w)) 12) 12 place
@@ -54,18 +54,19 @@ unfoldable pub hasFixed : List ℕ → ℕ → ℕ → Ma10 → Bool
 hasFixed ws zero mv current = false
 hasFixed ws (suc k) mv current = hasFixed ws k mv current || ofObject (fixedWith mv current) (decodeOf (getD ws k 0))
 
--- "AVS needs a 15 V fixed object with the same current as 19..10, and, if 9..0 isn't zero, a 20 V fixed object with the same current as 9..0."
+-- "there is a fixed object of 15 V with a current equal to the first AVS current, and, unless the second AVS current is zero, a fixed
+-- object of 20 V with a current equal to the second"
 abbrev pub avsMatches : List ℕ → ℕ → Ma10 → Ma10 → Bool
 avsMatches ws n low high = hasFixed ws n 15000 low && (eqb (high .0) 0 || hasFixed ws n 20000 high)
 
 unfoldable pub avsDiffers : List ℕ → ℕ → Object → Bool
 avsDiffers ws n = ofAvs (λ low high. not (avsMatches ws n low high))
 
--- 17: "AVS differs from its fixed objects", at the AVS word
+-- 17: "AVS does not agree with its fixed objects", at the AVS word
 abbrev pub avsRows : List ℕ → ℕ → ℕ → List Refusal
 avsRows ws n k = refusal (ofObject (avsDiffers ws n) (decodeOf (getD ws k 0))) 17 (k + 1) ∷ []
 
--- "10, .. 11, then word by word 12, 13, 15, 16, 14, then 17"
+-- "10; 11; then for each word in turn 12, 13, 15, 16, 14; then 17"
 abbrev pub shapeRefusals : Words → List Refusal
 shapeRefusals l =
     refusal (badCount (l .count)) 10 0

@@ -1,4 +1,5 @@
--- Writing a list (01, "What the library covers": "Writing checks the count, then each object for a field too wide, then the shape of the words made").
+-- Writing a list (STATEMENT, "Lists in hand": "It looks at the count first (10), then for the first object with a field that is wider
+-- than its bits (7, the object's place), and then at the shape of the words that the objects make.").
 -- Assumes nothing.
 use mathlib.Core.List.{List, [], _∷_, _++_}
 use Prim.Native.Nat.{ℕ, _+_}
@@ -17,7 +18,7 @@ use Rattle.lists.specs.Reading.{emptyPlace}
 
 -- ---- by what the object at place k + 1 is written as (`made k`), whatever form the objects have
 
--- 7: "a field too wide for its bits", at the first such object
+-- 7, at "the first object with a field that is wider than its bits"
 abbrev pub wideRows : (ℕ → Encoded) → ℕ → List Refusal
 wideRows made k = refusal (eqb (encodedNumber (made k)) 7) 7 (k + 1) ∷ []
 
@@ -31,7 +32,7 @@ wordsFrom made n = record { words = sevenTo (λ (k : ℕ). wordIn (made k)) 0 n;
 abbrev pub noWords : Words
 noWords = record { words = replicate 7 0; count = 0 }
 
--- 10, 7, then the shape of the words made: "10, 7, 11, then word by word 12, 13, 15, 16, 14, then 17"
+-- "10; 7 at the first such object; then as shape from 11 on"
 abbrev pub writingRefusals : (ℕ → Encoded) → ℕ → List Refusal
 writingRefusals made n = refusal (badCount n) 10 0 ∷ (eachPlace (wideRows made) n ++ shapeRefusals (wordsFrom made n))
 

@@ -1,4 +1,4 @@
--- Which words and which objects are refused, by 01's numbers.
+-- Which words and which objects are refused, by their numbers.
 -- Assumes nothing.
 use mathlib.Core.Path.{_≡_, refl, sym, ap, _∙_}
 use mathlib.Core.Bool.{Bool, true, false, true≢false}

@@ -1,4 +1,5 @@
--- What is asked of an object, or of an object of one kind, says nothing of anything else: there the answer is no.
+-- What is asked of an object, or of an object of one kind (STATEMENT, "Object words"), says nothing of anything else: there the answer is
+-- no.
 -- Assumes nothing.
 use mathlib.Core.Bool.{Bool, true, false}
 use Rattle.steps.specs.declared.Mv50.{Mv50}

@@ -1,4 +1,4 @@
--- Bit places as the documents name them: `bits w 19 10` is the number in bits 19..10 of a word.
+-- Bit places as STATEMENT names them: `bits w 19 10` is the number in bits 19..10 of a word.
 -- Assumes nothing.
 use Prim.Native.Nat.{ℕ, _+_, _-_, _/_, _%_, _^_}
 

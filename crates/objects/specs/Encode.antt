@@ -1,4 +1,5 @@
--- The word of an object (01, "Object words"): its fields at their bit places, the lowest first. Reserved bits are 0, and the kind stands last.
+-- The word of an object (STATEMENT, "Object words"): its fields at their bit places, the lowest first. "Putting an object together sets
+-- its reserved bits to zero", and the kind stands last.
 -- Assumes nothing.
 use mathlib.Core.Bool.{Bool, true, false, cond}
 use mathlib.Core.List.{List, [], _∷_}
@@ -36,16 +37,16 @@ abbrev pub ifFit : Bool → ℕ → Encoded
 ifFit true w = Word w
 ifFit false w = TooWide
 
--- "a field too wide for its bits" is refused, never cut
+-- "refuses with 7 when a field does not fit its bits; nothing is cut off"
 unfoldable pub wordOf : List Field → Encoded
 wordOf fs = ifFit (allFit fs) (joined fs)
 
 abbrev pub encodeOf : Object → Encoded
 encodeOf o = wordOf (fieldsOf o)
 
--- ---- what each answer says: 01's number, and the word
+-- ---- what each answer says: its refusal number, and the word
 
--- 7: "a field too wide for its bits". "A refusal returns its number .. and zero for all else."
+-- 7: "a field does not fit its bits". "On a refusal everything else in the answer is zero".
 abbrev pub encodedSays : Encoded → ℕ × ℕ
 encodedSays (Word w) = (0, w)
 encodedSays TooWide = (7, 0)

@@ -1,4 +1,4 @@
--- A word as a row of fields, the lowest first: what it takes to put a word together.
+-- A word as a row of fields, the lowest first: what it takes to put a word together (STATEMENT, "Object words").
 -- Assumes nothing.
 use mathlib.Core.Bool.{Bool, true, false, _&&_}
 use mathlib.Core.List.{List, [], _∷_}

@@ -1,4 +1,4 @@
--- A port that is offered power (01, "Attach and advertise set P to ..., and return the list"): its list can be built.
+-- A port that is offered power (STATEMENT, "Calls": attach and advertise answer with "its rule list"): its list can be built.
 -- Assumes nothing.
 use mathlib.Core.Path.{_≡_, refl, ap}
 use mathlib.Core.Bool.{Bool, true, false, _||_}

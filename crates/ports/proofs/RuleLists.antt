@@ -1,4 +1,4 @@
--- A row that a list can be built for (01, "Ports that share"): its profile passes the builder, and the list its shape.
+-- A row that a list can be built for (STATEMENT, "Rows"): its profile passes the builder, and the list its shape.
 -- Assumes nothing.
 use mathlib.Core.Path.{_≡_, refl, sym, ap, subst}
 use mathlib.Core.Bool.{Bool, true, false, not, cond, _&&_, _||_}
@@ -40,7 +40,7 @@ attached-offerable y a = record {
 }
 
 module _ (y : Row) (o : Offerable y) where
-  -- "rounded down, F = 0, with PPS exactly where wanted and P = M": no refusal of the builder applies
+  -- "rounded down, without flags, and with PPS exactly where PPS is wanted and P is equal to M": no refusal of the builder applies
   pub rule-profile-passes : NoneApply (buildRefusals (ruleProfile y))
   unfolding ruleProfile rulePps
   rule-profile-passes = (
@@ -64,7 +64,7 @@ module _ (y : Row) (o : Offerable y) where
   pub rule-list-built : builtOf (ruleProfile y) ≡ record { verdict = success; list = builtWords (ruleProfile y) }
   rule-list-built = build-clear (ruleProfile y) rule-profile-passes
 
-  -- "A row's list, its rule list, is the one built for its M, P and cable"
+  -- "It is not stored: it follows from the row."
   pub rule-list-is : ruleList y ≡ builtWords (ruleProfile y)
   rule-list-is = ap (λ (l : Listing). l .list) rule-list-built
 

@@ -1,4 +1,4 @@
--- What a sound row says, and back (01, "Ports that share").
+-- What a sound row says, and back (STATEMENT, "Rows").
 -- Assumes nothing.
 use mathlib.Core.Path.{_≡_, refl, sym, ap, _∙_}
 use mathlib.Core.Bool.{Bool, true, false, cond, _&&_, _||_, and-eq-true-iff}
@@ -11,13 +11,13 @@ use Rattle.steps.specs.Ranges.{within}
 use Rattle.ports.specs.declared.Row.{Row}
 use Rattle.ports.specs.Soundness.{soundEmpty, soundAttached, soundRow}
 
--- "Rows are sound when M is 15..200, PPS is 0 or 1"
+-- both columns: M "15 to 200", PPS wanted "0 or 1"
 pub record SoundLimits (y : Row) : Type 0 where
   pub max-low : 15 ≤ y .max .0
   pub max-high : y .max .0 ≤ 200
   pub pps-high : y .pps ≤ 1
 
--- ".. an attached one has cable 3 or 5 and 15 ≤ held ≤ P ≤ M"
+-- the column "attached port"
 pub record SoundAttached (y : Row) : Type 0 where
   pub limits : SoundLimits y
   pub cable-is : (y .cable ≡ 3) ⊎ (y .cable ≡ 5)
@@ -25,7 +25,7 @@ pub record SoundAttached (y : Row) : Type 0 where
   pub held-high : y .held .0 ≤ y .present .0
   pub present-high : y .present .0 ≤ y .max .0
 
--- ".. an empty port is as above": "Empty means cable 0, P 0, held 15."
+-- the column "empty port"
 pub record SoundEmpty (y : Row) : Type 0 where
   pub limits : SoundLimits y
   pub no-cable : y .cable ≡ 0

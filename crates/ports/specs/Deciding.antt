@@ -1,5 +1,5 @@
--- What each sharing call decides from how the rows stand and from the port's own row: its answer, and the row to write (01, "Ports that
--- share"). That this is what the lent rows say is shown in proofs/.
+-- What each sharing call decides from how the rows stand and from the port's own row: its answer, and the row to write (STATEMENT,
+-- "Calls"). That this is what the lent rows say is shown in proofs/.
 -- Assumes nothing.
 use mathlib.Core.Bool.{Bool, not}
 use mathlib.Core.List.{List, [], _∷_, _++_}
@@ -21,15 +21,15 @@ use Rattle.ports.specs.Refusing.{cannotAttach, notAttached, ownRefusals,
 use Rattle.ports.specs.Standing.{endRefusals, portEndRefusals}
 use Rattle.ports.specs.Lending.{noPowerLeft}
 
--- "capacity less the other rows' held": less all held, and the row's own again
+-- "What the others leave for a port is the capacity less what all other rows hold": less all held, and the row's own again
 abbrev pub leftBeside : ℕ → Standing → Row → ℕ
 leftBeside capacity s y = (capacity - s .held) + y .held .0
 
--- "the smaller of M and" that
+-- "the smaller of M and what the others leave"
 abbrev pub presentBeside : ℕ → Standing → Row → ℕ
 presentBeside capacity s y = presentOf y (leftBeside capacity s y)
 
--- "A refusal returns its number, the place, and zero for all else ..; rows are not written": the place past the last row is no row.
+-- "on a refusal none is" written: the place past the last row is no row.
 abbrev pub noChange : Standing → ℕ → ℕ → Change
 noChange s n p = record { answer = verdict n p; at = s .count; row = noRow }
 
@@ -47,7 +47,8 @@ abbrev pub requestEndRefusals : ℕ → Standing → Row → ℕ → ℕ → Lis
 requestEndRefusals capacity s y port word =
     useEndRefusals capacity s y port ++ (ownRefusals y word ++ noPowerNow (leftBeside capacity s y) y port word)
 
--- "Attach and advertise set P to the smaller of M and capacity less the other rows' held"
+-- attach: "P the smaller of M and what the others leave"; advertise: "P of the attached port becomes the smaller of M and what the others
+-- leave"
 unfoldable pub attachChange : ℕ → Standing → Row → ℕ → ℕ → Change
 attachChange capacity s y port cable =
     firstOf (noChange s) (attachEndRefusals capacity s y port cable) (changing port (offering y (presentBeside capacity s y) cable))
@@ -59,20 +60,20 @@ advertiseChange capacity s y port =
 abbrev pub refused : Change → Bool
 refused c = not (eqb (c .answer .number) 0)
 
--- ".. and return the list": that of the row that is written
+-- both answer with "its rule list": that of the row that is written
 unfoldable pub offerOf : Change → Listing
 offerOf c = firstOf writeRefused (refusal (refused c) (c .answer .number) (c .answer .place) ∷ []) (builtOf (ruleProfile (c .row)))
 
--- "An accepted request sets held to the larger of 15 and its power"
+-- "held becomes the power of the request"
 unfoldable pub requestChange : ℕ → Standing → Row → ℕ → ℕ → Change
 requestChange capacity s y port word =
     firstOf (noChange s) (requestEndRefusals capacity s y port word) (changing port (holding y (newHeld y word)))
 
--- "Detach empties."
+-- "empties the attached port"
 unfoldable pub detachChange : ℕ → Standing → Row → ℕ → Change
 detachChange capacity s y port = firstOf (noChange s) (useEndRefusals capacity s y port) (changing port (emptied y))
 
--- "Remaining power is capacity less all held."
+-- "the capacity less what all rows hold"
 unfoldable pub powerLeft : ℕ → Standing → RemainingPower
 powerLeft capacity s =
     firstOf noPowerLeft (endRefusals capacity s) (record { verdict = success; power = halfWatts (capacity - s .held) })

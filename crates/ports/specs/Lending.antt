@@ -1,4 +1,4 @@
--- The sharing calls over the lent rows: the answer of each, and every row at exit, from the rows at entry (01, "Ports that share").
+-- The sharing calls over the lent rows: the answer of each, and every row at exit, from the rows at entry (STATEMENT, "Calls").
 -- Assumes nothing.
 use mathlib.Core.List.{List, map}
 use Prim.Native.Nat.{ℕ, _-_}
@@ -15,11 +15,11 @@ use Rattle.ports.specs.RuleLists.{ruleList}
 use Rattle.ports.specs.Requests.{newHeld}
 use Rattle.ports.specs.Refusing.{setUpRefusals, attachRefusals, useRefusals, requestRefusals, remainingRefusals}
 
--- "rows are not written" on a refusal
+-- "on a refusal none is" written
 abbrev pub unlessRefused : List Row → List Refusal → List Row → List Row
 unlessRefused ys refusals after = firstOf (λ n p. ys) refusals after
 
--- ---- set up: "takes M and PPS wanted from the rows as lent, empties all ports"
+-- ---- set up: "keeps M and PPS wanted of each row as lent, and empties every port"
 
 unfoldable pub setUpAnswer : ℕ → List Row → Verdict
 setUpAnswer capacity ys = verdictOf (setUpRefusals capacity ys)
@@ -27,7 +27,7 @@ setUpAnswer capacity ys = verdictOf (setUpRefusals capacity ys)
 unfoldable pub setUpRows : ℕ → List Row → List Row
 setUpRows capacity ys = unlessRefused ys (setUpRefusals capacity ys) (map emptied ys)
 
--- ---- attach with a cable
+-- ---- attach, with a cable
 
 unfoldable pub attachAnswer : ℕ → List Row → ℕ → ℕ → Listing
 attachAnswer capacity ys port cable =
@@ -38,7 +38,7 @@ unfoldable pub attachRows : ℕ → List Row → ℕ → ℕ → List Row
 attachRows capacity ys port cable =
     unlessRefused ys (attachRefusals capacity ys port cable) (set ys (port - 1) (offered capacity ys port cable))
 
--- ---- advertise again
+-- ---- advertise
 
 -- the row with the cable that it has
 abbrev pub offeredAgain : ℕ → List Row → ℕ → Row
@@ -63,7 +63,7 @@ requestRows capacity ys port word =
     unlessRefused ys (requestRefusals capacity ys port word)
     (set ys (port - 1) (holding (portRow ys port) (newHeld (portRow ys port) word)))
 
--- ---- detach: "Detach empties."
+-- ---- detach: "empties the attached port"
 
 unfoldable pub detachAnswer : ℕ → List Row → ℕ → Verdict
 detachAnswer capacity ys port = verdictOf (useRefusals capacity ys port)
@@ -72,7 +72,7 @@ unfoldable pub detachRows : ℕ → List Row → ℕ → List Row
 detachRows capacity ys port =
     unlessRefused ys (useRefusals capacity ys port) (set ys (port - 1) (emptied (portRow ys port)))
 
--- ---- remaining power: "Remaining power is capacity less all held." No row is written.
+-- ---- remaining: "the capacity less what all rows hold". No row is written.
 
 abbrev pub noPowerLeft : ℕ → ℕ → RemainingPower
 noPowerLeft n p = record { verdict = verdict n p; power = halfWatts 0 }

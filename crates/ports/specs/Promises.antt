@@ -1,4 +1,5 @@
--- What each call of this crate promises of its answer. The contracts cite these names, and so do the theorems over them.
+-- What each call of this crate promises of its answer (STATEMENT, "Calls"). The contracts cite these names, and so do the theorems over
+-- them.
 -- Assumes nothing.
 use mathlib.Core.Path.{_≡_}
 use mathlib.Core.Bool.{Bool}

@@ -1,5 +1,4 @@
--- The refusals of the sharing calls, in order (01, "Refusal numbers": "Sharing: 30, 32, then at set-up row by row 31, 4; other calls
--- 37, 33, 3 (attach), 34 or 35, the request's own, 36"; design, reading 6).
+-- The refusals of the sharing calls, in their order (STATEMENT, "Order").
 -- Assumes nothing.
 use mathlib.Core.Bool.{Bool, not}
 use mathlib.Core.List.{List, [], _∷_, _++_}
@@ -16,11 +15,11 @@ use Rattle.ports.specs.Soundness.{soundRow}
 use Rattle.ports.specs.RuleLists.{ruleList}
 use Rattle.ports.specs.Requests.{newHeld}
 
--- 30: "row count not 1..8"; 32: "capacity outside 15 times rows .. 1600"
+-- 30: "number of rows outside 1 to 8"; 32: "capacity outside 15 times the number of rows to 1600"
 abbrev pub tableRefusals : ℕ → ℕ → List Refusal
 tableRefusals capacity count = refusal (not (within 1 8 count)) 30 0 ∷ refusal (not (within (15 * count) 1600 capacity)) 32 0 ∷ []
 
--- 31: "set-up M outside 15..200"; 4: "PPS wanted above 1". The place is the row.
+-- 31: "at set-up, M outside 15 to 200"; 4: "for PPS wanted at set-up". The place is the row.
 abbrev pub freshRow : Row → ℕ → List Refusal
 freshRow y place = refusal (not (within 15 200 (y .max .0))) 31 place ∷ refusal (ltb 1 (y .pps)) 4 place ∷ []
 
@@ -30,7 +29,7 @@ freshRows ys k = freshRow (rowOf ys k) (k + 1)
 abbrev pub setUpRefusals : ℕ → List Row → List Refusal
 setUpRefusals capacity ys = tableRefusals capacity (length ys) ++ eachPlace (freshRows ys) (length ys)
 
--- 37: "rows not sound": "the first row at fault, or 0 when only the sum is"
+-- 37: "rows that are not sound", at "the first row at fault; 0 when each row is right by itself and only the sum is not"
 abbrev pub faultRow : Row → ℕ → List Refusal
 faultRow y place = refusal (not (soundRow y)) 37 place ∷ []
 
@@ -47,36 +46,36 @@ soundRefusals capacity ys = eachPlace (faultRows ys) (length ys) ++ sumFault cap
 abbrev pub remainingRefusals : ℕ → List Row → List Refusal
 remainingRefusals capacity ys = tableRefusals capacity (length ys) ++ soundRefusals capacity ys
 
--- 33: "port not 1..rows"
+-- 33: "port outside 1 to the number of rows"
 abbrev pub noSuchPort : ℕ → ℕ → List Refusal
 noSuchPort count port = refusal (not (within 1 count port)) 33 0 ∷ []
 
 abbrev pub portRefusals : ℕ → List Row → ℕ → List Refusal
 portRefusals capacity ys port = remainingRefusals capacity ys ++ noSuchPort (length ys) port
 
--- whether a port is in use
+-- "A port with cable 0 is empty; any other is attached."
 abbrev pub inUse : Row → Bool
 inUse y = not (eqb (y .cable) 0)
 
--- 3: "cable not 3 or 5"; 34: "attach to a port in use". The place of 34 is the row.
+-- 3: "cable neither 3 nor 5"; 34: "attach to a port that is attached". The place of 34 is the row.
 abbrev pub cannotAttach : Row → ℕ → ℕ → List Refusal
 cannotAttach y port cable = refusal (badCable cable) 3 0 ∷ refusal (inUse y) 34 port ∷ []
 
 abbrev pub attachRefusals : ℕ → List Row → ℕ → ℕ → List Refusal
 attachRefusals capacity ys port cable = portRefusals capacity ys port ++ cannotAttach (portRow ys port) port cable
 
--- 35: "port not attached". The place is the row. Advertise and detach have these.
+-- 35: "the port is not attached". The place is the row. Advertise and detach have these.
 abbrev pub notAttached : Row → ℕ → List Refusal
 notAttached y port = refusal (not (inUse y)) 35 port ∷ []
 
 abbrev pub useRefusals : ℕ → List Row → ℕ → List Refusal
 useRefusals capacity ys port = portRefusals capacity ys port ++ notAttached (portRow ys port) port
 
--- "A request is judged on the list of its row's stored P": the request's own refusals are those of that list.
+-- "A request is judged on the rule list of its row as it stands": the request's own refusals are those of that list.
 abbrev pub ownRefusals : Row → ℕ → List Refusal
 ownRefusals y word = answerRefusals (ruleList y) word
 
--- 36: "no power for this request now": "exactly when the new held would exceed capacity less the other rows' held". The place is the row.
+-- 36: "the others leave too little for this request", "exactly when its power is more than the others leave". The place is the row.
 abbrev pub noPowerNow : ℕ → Row → ℕ → ℕ → List Refusal
 noPowerNow left y port word = refusal (ltb left (newHeld y word)) 36 port ∷ []
 

@@ -1,4 +1,4 @@
--- The power of a request (01, "Ports that share").
+-- The power of a request (STATEMENT, "Calls").
 -- Assumes nothing.
 use Prim.Native.Nat.{ℕ, _*_, max, min}
 use Rattle.steps.specs.Units.{mv50}
@@ -14,7 +14,8 @@ use Rattle.requests.specs.Answering.{namedBy}
 use Rattle.ports.specs.declared.Row.{Row}
 use Rattle.ports.specs.RuleLists.{ruleList}
 
--- "voltage (the fixed object's, else the requested)", in mV; a rule list has no battery or variable object, and their requests name no voltage
+-- "that of the fixed object, or for PPS and AVS the one asked for", in mV; a rule list has no battery or variable object, and their
+-- requests name no voltage
 abbrev pub voltageFor : Object → ℕ → ℕ
 voltageFor (Fixed f p v a) w = mv50 v
 voltageFor (Battery x m p) w = voltsOf (requestOf (Battery x m p) w)
@@ -22,11 +23,11 @@ voltageFor (Variable x m a) w = voltsOf (requestOf (Variable x m a) w)
 voltageFor (Pps l x m a) w = voltsOf (requestOf (Pps l x m a) w)
 voltageFor (Avs p l h) w = voltsOf (requestOf (Avs p l h) w)
 
--- ".. times operating current rounded up to a half watt": mV times mA is µW, and a half watt is 500000 of these
+-- ".. rounded up to a half watt": mV times mA is µW, and a half watt is 500000 of these
 abbrev pub halfWattsFor : Object → ℕ → ℕ
 halfWattsFor o w = upOf (voltageFor o w * operatingOf (requestOf o w)) 500000
 
--- ".. for PPS cut to P"
+-- "for PPS at most P"
 abbrev pub cutFor : Object → ℕ → ℕ → ℕ
 cutFor (Fixed f p v a) present power = power
 cutFor (Battery x m p) present power = power
@@ -43,10 +44,10 @@ powerIn NotAllowed present w = 0
 unfoldable pub powerOf : Words → ℕ → ℕ → ℕ
 powerOf l present w = powerIn (namedBy l w) present w
 
--- "An accepted request sets held to the larger of 15 and its power"
+-- "and never less than 15"
 unfoldable pub heldFor : Words → ℕ → ℕ → ℕ
 heldFor l present w = max 15 (powerOf l present w)
 
--- on the list of the row's stored P
+-- on the rule list of the row as it stands
 abbrev pub newHeld : Row → ℕ → ℕ
 newHeld y w = heldFor (ruleList y) (y .present .0) w

@@ -1,4 +1,4 @@
--- The rows of the ports and what they hold (01, "Ports that share"). Rows are a list, one row for each port, as they are lent.
+-- The rows of the ports and what they hold (STATEMENT, "Rows"). Rows are a list, one row for each port, as they are lent.
 -- Assumes nothing.
 use mathlib.Core.Bool.{cond}
 use mathlib.Core.List.{List}
@@ -20,7 +20,7 @@ rowOf ys k = getD ys k noRow
 abbrev pub portRow : List Row → ℕ → Row
 portRow ys port = rowOf ys (port - 1)
 
--- "Empty means cable 0, P 0, held 15."
+-- the column "empty port": cable 0, P 0, held 15
 unfoldable pub emptied : Row → Row
 emptied y = record { max = y .max; pps = y .pps; cable = 0; present = halfWatts 0; held = halfWatts 15 }
 
@@ -36,15 +36,15 @@ besides own figure k = cond (eqb k own) 0 (figure k)
 abbrev pub heldAt : List Row → ℕ → ℕ
 heldAt ys k = rowOf ys k .held .0
 
--- "all held together"
+-- "all they hold together"
 abbrev pub allHeld : List Row → ℕ
 allHeld ys = together (heldAt ys) (length ys)
 
--- "the other rows' held"
+-- "what all other rows hold"
 abbrev pub othersHeld : List Row → ℕ → ℕ
 othersHeld ys port = together (besides (port - 1) (heldAt ys)) (length ys)
 
--- "capacity less the other rows' held"
+-- "What the others leave for a port is the capacity less what all other rows hold."
 abbrev pub leftFor : ℕ → List Row → ℕ → ℕ
 leftFor capacity ys port = capacity - othersHeld ys port
 
@@ -52,7 +52,7 @@ leftFor capacity ys port = capacity - othersHeld ys port
 abbrev pub presentOf : Row → ℕ → ℕ
 presentOf y left = min (y .max .0) left
 
--- "Attach and advertise set P to the smaller of M and capacity less the other rows' held"
+-- "the smaller of M and what the others leave"
 unfoldable pub presentFor : ℕ → List Row → ℕ → ℕ
 presentFor capacity ys port = presentOf (portRow ys port) (leftFor capacity ys port)
 

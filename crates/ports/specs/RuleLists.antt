@@ -1,4 +1,4 @@
--- The rule list of a row (01, "Ports that share").
+-- The rule list of a row (STATEMENT, "Rows").
 -- Assumes nothing.
 use mathlib.Core.Bool.{cond, _&&_}
 use Prim.Native.Nat.{ℕ}
@@ -8,11 +8,11 @@ use Rattle.rules.specs.declared.Profile.{Profile}
 use Rattle.rules.specs.Building.{builtOf}
 use Rattle.ports.specs.declared.Row.{Row}
 
--- "PPS exactly where wanted and P = M"
+-- "with PPS exactly where PPS is wanted and P is equal to M"
 unfoldable pub rulePps : Row → ℕ
 rulePps y = cond (eqb (y .pps) 1 && eqb (y .present .0) (y .max .0)) 1 0
 
--- "built for its M, P and cable, rounded down, F = 0, with PPS .."
+-- "rounded down, without flags, and with PPS .."
 unfoldable pub ruleProfile : Row → Profile
 ruleProfile y = record {
   max = y .max;
@@ -23,6 +23,6 @@ ruleProfile y = record {
   flags = 0;
 }
 
--- "A row's list, its rule list"
+-- "It is not stored: it follows from the row."
 abbrev pub ruleList : Row → Words
 ruleList y = builtOf (ruleProfile y) .list

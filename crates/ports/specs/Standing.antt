@@ -1,5 +1,5 @@
--- How the rows stand while one pass judges and sums them: before the first row, with each row, and what it says at the end. The loops over
--- the rows are those of the callers.
+-- How the rows stand while one pass judges and sums them (STATEMENT, "Rows"): before the first row, with each row, and what it says at
+-- the end. The loops over the rows are those of the callers.
 -- Assumes nothing.
 use mathlib.Core.Bool.{Bool, true, false, cond, not, _&&_}
 use mathlib.Core.List.{List, [], _∷_, _++_}

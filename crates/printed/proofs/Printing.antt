@@ -14,7 +14,7 @@ use Rattle.printed.specs.Ascii.{ascii}
 use Rattle.printed.specs.Records.{profileAt, listingLine}
 use Rattle.printed.specs.Printed.{recordLine, recordLines, shortLine, endLine, printedOf}
 
--- "Empty input prints nothing."
+-- "No input prints nothing."
 pub empty-prints-nothing : printedOf [] ≡ []
 unfolding printedOf
 empty-prints-nothing = refl
@@ -26,7 +26,7 @@ pub end-of-some : (kept : ℕ) → 0 < kept → endLine kept ≡ shortLine
 end-of-some zero h = absurd (omega arith)
 end-of-some (suc n) h = refl
 
--- "A last record of 1 to 7 bytes prints `9 0`", whatever they are.
+-- "Where one to seven bytes are left at the end, they print `9 0`, whatever they are."
 pub short-record : (s : List ℕ) → 0 < length s → length s < 8 → printedOf s ≡ ascii "9 0\n"
 unfolding printedOf
 short-record s some few =
@@ -41,7 +41,7 @@ later s n =
     let same : profileAt s (8 + 8 * n) ≡ profileAt (drop 8 s) (8 * n) = simp (getD-drop, add-assoc) in
     ap (recordLine s) place ∙ ap (λ (q : Profile). listingLine (builtOf q)) same
 
--- "M and P (two bytes each, low first), cable, rounding, PPS wanted, F": the line of the list built for them, then the rest.
+-- M and P "low byte first", cable, rounding, PPS wanted, flags: the line of the list built for them, then the rest.
 module _ (m m₂ p p₂ cable rounding pps flags : ℕ) (rest : List ℕ) where
   abbrev input : List ℕ
   input = m ∷ m₂ ∷ p ∷ p₂ ∷ cable ∷ rounding ∷ pps ∷ flags ∷ rest

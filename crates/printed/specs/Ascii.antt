@@ -1,4 +1,4 @@
--- A text as its bytes, so that a line can be written as 01 prints it.
+-- A text as its bytes, so that a line can be written as STATEMENT has it.
 -- Assumes nothing.
 use mathlib.Core.List.{List, [] as none, _∷_ as _then_}
 use Prim.Native.Nat.{ℕ}

@@ -1,4 +1,4 @@
--- What the listing program prints for an input (01, "The listing program"). `caps` is proved to make each of these lines,
+-- What the listing program prints for an input (STATEMENT, "The listing program"). `caps` is proved to make each of these lines,
 -- `recordLine` and `endLine`; no contract can say in which order C's `write` gets them.
 -- Assumes nothing.
 use mathlib.Core.List.{List, [], _++_}
@@ -8,7 +8,7 @@ use Rattle.lists.specs.Writing.{writeRefused}
 use Rattle.rules.specs.Building.{builtOf}
 use Rattle.printed.specs.Records.{profileAt, listingLine}
 
--- "For each it prints one line": that of the list built for the record whose first byte is at a place
+-- "For each record it builds the list and prints one line": that of the record whose first byte is at a place
 abbrev pub recordLine : List ℕ → ℕ → List ℕ
 recordLine s at = listingLine (builtOf (profileAt s at))
 
@@ -17,11 +17,11 @@ abbrev pub recordLines : List ℕ → ℕ → List ℕ
 recordLines s zero = []
 recordLines s (suc n) = recordLines s n ++ recordLine s (8 * n)
 
--- the line of refusal 9, "input record short", whose list is empty
+-- the line of refusal 9, "an input record too short", whose list is empty
 abbrev pub shortLine : List ℕ
 shortLine = listingLine (writeRefused 9 0)
 
--- behind the last whole record, by how many bytes are left: nothing, or "a last record of 1 to 7 bytes"
+-- behind the last whole record, by how many bytes are left: nothing, or the line "Where one to seven bytes are left at the end"
 abbrev pub endLine : ℕ → List ℕ
 endLine zero = []
 endLine (suc n) = shortLine

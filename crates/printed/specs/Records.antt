@@ -1,4 +1,4 @@
--- A record (01, "The listing program"): "M and P (two bytes each, low first), cable, rounding, PPS wanted, F".
+-- A record (STATEMENT, "The listing program"): eight bytes, M and P with the "low byte first".
 -- Assumes nothing.
 use mathlib.Core.List.{List}
 use Prim.Native.Nat.{ℕ, _+_, _*_}

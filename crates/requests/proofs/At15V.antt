@@ -1,6 +1,6 @@
--- The 15.0 V theorem: where the two ranges of an AVS object meet, a request may draw the larger of the two currents; below 15.0 V
--- the first current limits, above it the second. 01: "Below 15.0 V the first current limits, above it the second; at 15.0 V the larger
--- of the two."
+-- The 15.0 V theorem: where the two ranges of an AVS object meet, a request may draw the larger of the two currents; lower down the first
+-- current is what is advertised, further up the second (STATEMENT, "Answering a request": "Both ranges hold 15.0 V, so a port that offers
+-- the larger current there grants it.").
 -- Assumes nothing.
 use mathlib.Core.Path.{_≡_, refl, sym, ap, _∙_, subst}
 use mathlib.Core.Bool.{Bool, true, false, not}

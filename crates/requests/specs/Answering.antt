@@ -1,4 +1,4 @@
--- The answer to a request (01, "Answering a request"; numbers and order from "Refusal numbers").
+-- The answer to a request (STATEMENT, "Answering a request"; numbers and order from "Refusal numbers").
 -- Assumes nothing.
 use mathlib.Core.Bool.{Bool, _||_}
 use mathlib.Core.List.{List, [], _∷_, _++_}
@@ -15,7 +15,7 @@ use Rattle.lists.specs.Shape.{shapeRefusals}
 use Rattle.requests.specs.Taking.{positionOf}
 use Rattle.requests.specs.Judging.{refusalsOf}
 
--- 20: "position not 1..count"
+-- 20: "position outside 1 to the count"
 abbrev pub badPosition : ℕ → ℕ → Bool
 badPosition count position = ltb position 1 || ltb count position
 
@@ -31,7 +31,7 @@ namedRefusals NotAllowed w = []
 abbrev pub objectRefusals : Words → ℕ → List Refusal
 objectRefusals l w = namedRefusals (namedBy l w) w
 
--- "Requests check the shape of the list first, then 20, 21, 23, 22, 24, 25." The place of 20 is 0 too.
+-- "as shape; then 20, 21, 23, 22, 24, 25". The place of 20 is 0 too.
 abbrev pub answerRefusals : Words → ℕ → List Refusal
 answerRefusals l w = shapeRefusals l ++ (refusal (badPosition (l .count) (positionOf w)) 20 0 ∷ objectRefusals l w)
 

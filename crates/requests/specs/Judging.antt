@@ -1,4 +1,4 @@
--- A request judged by the object that it names (01, "Answering a request"; numbers and order from "Refusal numbers").
+-- A request judged by the object that it names (STATEMENT, "Answering a request"; numbers and order from "Refusal numbers").
 -- Assumes nothing.
 use mathlib.Core.Bool.{Bool, not, _&&_}
 use mathlib.Core.List.{List, [], _∷_}

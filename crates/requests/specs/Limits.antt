@@ -1,4 +1,4 @@
--- What a request may ask of an object (01, "Answering a request"), in millivolts, milliamperes and milliwatts.
+-- What a request may ask of an object (STATEMENT, "Answering a request"), in millivolts, milliamperes and milliwatts.
 -- Assumes nothing.
 use mathlib.Core.Bool.{Bool, true, not, _&&_, cond}
 use mathlib.Core.List.{List, [], _∷_}
@@ -13,13 +13,13 @@ use Rattle.objects.specs.declared.Object.the-variants.{Fixed, Battery, Variable
 use Rattle.requests.specs.declared.Request.{Request}
 use Rattle.requests.specs.declared.Request.the-variants as asked
 
--- ---- 21: "a reserved bit that is set is refused (bit 27 by house rule)". "Bits 25..22 are not examined"
+-- ---- 21: "a reserved bit of the request is set". Bits 25..22 are "not examined"
 
--- "For fixed, variable and battery: .. bits 27, 21, 20 reserved."
+-- fixed, battery, variable: the rows "reserved" are 27, 21 and 20
 abbrev pub besideFigures : List ℕ
 besideFigures = 27 ∷ 21 ∷ 20 ∷ []
 
--- "PPS and AVS: .. bits 27, 21, 8, 7 reserved."
+-- PPS and AVS: 27, 21 and 8..7
 abbrev pub besideVoltage : List ℕ
 besideVoltage = 27 ∷ 21 ∷ 8 ∷ 7 ∷ []
 
@@ -69,11 +69,12 @@ maximumOf (asked.Avs v a) = 0
 
 -- ---- what is offered
 
--- "A zero in 9..0 means the range ends at 15 V" (01, "Object words").
+-- "An AVS object whose second current is zero ends at 15 V" (STATEMENT, "Object words").
 unfoldable pub avsTop : Ma10 → ℕ
 avsTop high = cond (eqb (high .0) 0) 15000 20000
 
--- "Below 15.0 V the first current limits, above it the second; at 15.0 V the larger of the two."
+-- "For AVS it depends on the voltage": the first current below 15.0 V, the second above, and "the larger of the two currents" at 15.0 V
+-- itself
 unfoldable pub avsLimit : ℕ → ℕ → ℕ → ℕ
 avsLimit mv first second = cond (ltb mv 15000) first (cond (ltb 15000 mv) second (max first second))
 
@@ -85,7 +86,8 @@ advertisedAt (Variable x m a) mv = ma10 a
 advertisedAt (Pps l x m a) mv = ma50 a
 advertisedAt (Avs p l h) mv = avsLimit mv (ma10 l) (ma10 h)
 
--- "PPS voltage lies from min to max, AVS voltage from 9.0 V to 15.0 or 20.0 V."
+-- "of a PPS object from its minimum to its maximum, of an AVS object from 9 V to 15 V where the second current is zero and else from 9 V
+-- to 20 V"
 abbrev pub inRange : Object → ℕ → Bool
 inRange (Fixed f p v a) mv = true
 inRange (Battery x m p) mv = true
@@ -93,7 +95,7 @@ inRange (Variable x m a) mv = true
 inRange (Pps l x m a) mv = within (mv100 m) (mv100 x) mv
 inRange (Avs p l h) mv = within 9000 (avsTop h) mv
 
--- AVS alone asks for a whole 100 mV
+-- AVS alone asks for "a whole number of 100 mV"
 abbrev pub wholeStep : Object → ℕ → Bool
 wholeStep (Fixed f p v a) mv = true
 wholeStep (Battery x m p) mv = true
@@ -103,18 +105,18 @@ wholeStep (Avs p l h) mv = eqb (mv % 100) 0
 
 -- ---- the refusals of a request to an object
 
--- 23: "AVS voltage not a whole 100 mV"
+-- 23: "the voltage of an AVS request is a whole number of 100 mV"
 abbrev pub voltageNotWhole : Object → Request → Bool
 voltageNotWhole o r = not (wholeStep o (voltsOf r))
 
--- 22: "voltage outside the range"
+-- 22: "voltage outside the object's range"
 abbrev pub voltageOutside : Object → Request → Bool
 voltageOutside o r = not (inRange o (voltsOf r))
 
--- 24: "The operating figure is at most the advertised one"
+-- 24: "the operating figure is at most what is advertised"
 abbrev pub operatingTooLarge : Object → Request → Bool
 operatingTooLarge o r = not (leb (operatingOf r) (advertisedAt o (voltsOf r)))
 
--- 25: "the maximum figure likewise unless bit 26 is set"
+-- 25: "the maximum figure is at most what is advertised too, or bit 26 is set"
 abbrev pub maximumTooLarge : Object → Bool → Request → Bool
 maximumTooLarge o mismatch r = not (leb (maximumOf r) (advertisedAt o (voltsOf r))) && not mismatch

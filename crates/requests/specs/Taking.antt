@@ -1,4 +1,4 @@
--- What a request word says (01, "Answering a request").
+-- What a request word says (STATEMENT, "Answering a request").
 -- Assumes nothing.
 use mathlib.Core.Bool.{Bool, not}
 use Prim.Native.Nat.{ℕ}
@@ -13,21 +13,21 @@ use Rattle.requests.specs.declared.Request.{Request}
 use Rattle.requests.specs.declared.Request.the-variants as asked
 use Rattle.requests.specs.declared.Asked.{Asked}
 
--- "Bits 31..28 are the object position, 26 is capability mismatch."
+-- the rows "position" and "capability mismatch"
 abbrev pub positionOf : ℕ → ℕ
 positionOf w = bits w 31 28
 
 abbrev pub mismatchOf : ℕ → Bool
 mismatchOf w = not (clear w 26 26)
 
--- "For fixed, variable and battery: 19..10 operating figure, 9..0 maximum figure, in the object's own step"
+-- fixed, battery, variable: the rows "operating figure" and "maximum figure". "The two figures are in the object's own step"
 abbrev pub operatingIn : ℕ → ℕ
 operatingIn w = bits w 19 10
 
 abbrev pub maximumIn : ℕ → ℕ
 maximumIn w = bits w 9 0
 
--- "PPS and AVS: 20..9 voltage (20 mV for PPS, 25 mV for AVS ..), 6..0 current (50 mA)"
+-- PPS and AVS: the rows "voltage, bits 20..9, 20 mV", or "25 mV", and "current, 50 mA"
 abbrev pub ppsVolts : ℕ → Mv20
 ppsVolts w = record { 0 = bits w 20 9 }
 

@@ -34,7 +34,7 @@ module _ (p : Profile) (x : NoneApply (profileRefusals p)) (volts : ℕ) (pos : 
   same : (n : ℕ) → eqb n n ≡ true
   same n = eq-eqb n n refl
 
-  -- 20 V: either rounding, cut to the cable
+  -- 20 V: rounded either way, "cut to the cable"
   at-20 : volts ≡ 20 → fixedAllowed p volts (builtCurrent p volts) ≡ true
   unfolding builtCurrent
   at-20 e =

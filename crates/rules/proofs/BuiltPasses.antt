@@ -1,4 +1,4 @@
--- Every list that is built for a profile passes the rule check for that profile.
+-- "Every list that it builds has its shape and passes the rule check of its profile." (STATEMENT, "The builder")
 -- Assumes nothing.
 use mathlib.Core.Path.{_≡_, refl, sym, ap, ap₂, _∙_, subst}
 use mathlib.Core.Bool.{Bool, true, false, not, cond, _&&_, _||_, Bool·beq, or-true}

@@ -129,7 +129,7 @@ supply-at m i at asked high h e t =
     subst (λ (n : ℕ). Stands m n (Prog (getD supplies i (supply 0 0 0 0) .volts) (getD supplies i (supply 0 0 0 0) .top .0))) k
     (supply-stands m high i h (there .1))
 
--- "PPS, only when wanted"
+-- "when W is 1, the programmable supplies"
 module _ (p : Profile) where
   abbrev counted : Bool → ℕ
   counted wanted = cond wanted (length (slots (p .max .0))) (length (baseSlots (p .max .0)))

@@ -169,7 +169,7 @@ whole : (b : Bool) (s : Slot) → slotIf (b && true) s ++ [] ≡ slotIf b s
 whole true s = refl
 whole false s = refl
 
--- these rows are those of `progSlots`. "20 V Prog (5 to 21 V) when M > 90": no M is above 200, so none reaches 201
+-- these rows are those of `progSlots`. 20 V Prog is "there when" M > 90: no M is above 200, so none reaches 201
 supplies-are : (m : ℕ) → m ≤ 200 → chosen (supplySlots m) supplies ≡ progSlots m
 unfolding progSlots
 supplies-are m h =

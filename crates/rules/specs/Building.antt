@@ -1,4 +1,4 @@
--- The list that is built for a profile (01, "Power rules").
+-- The list that is built for a profile (STATEMENT, "The builder").
 -- Assumes nothing.
 use mathlib.Core.Path.{_≡_}
 use mathlib.Core.Bool.{Bool, true, false, cond}
@@ -20,12 +20,12 @@ use Rattle.rules.specs.Profiles.{buildRefusals}
 use Rattle.rules.specs.Tables.{Slot, Nothing, Fixed, Avs, Prog, baseSlots, slots}
 use Rattle.rules.specs.Currents.{builtCurrent, progCurrent}
 
--- "flags F (0..63, placed in bits 29..24 of the first word; bit 23 is zero)": the flag field begins at bit 23
+-- "The flags field of the first object is thus twice F."
 abbrev pub flagsAt : Bool → ℕ → ℕ
 flagsAt true flags = flags * 2
 flagsAt false flags = 0
 
--- the object at a slot; the power limited bit of PPS is set, peak current is 0
+-- the object at a slot: of a programmable supply "Its power limited bit is 1", of the others "Its peak current is 0"
 unfoldable pub objectFor : Profile → Bool → Slot → Object
 objectFor p first Nothing = zeroObject
 objectFor p first (Fixed volts) =
@@ -41,7 +41,7 @@ slotWord p first s = wordIn (encodeOf (objectFor p first s))
 abbrev pub wordFor : Profile → ℕ → ℕ
 wordFor p k = slotWord p (eqb k 0) (getD (slots (p .max .0)) k Nothing)
 
--- "PPS, only when wanted"
+-- "when W is 1, the programmable supplies"
 abbrev pub builtCount : Profile → ℕ
 builtCount p = cond (eqb (p .pps) 1) (length (slots (p .max .0))) (length (baseSlots (p .max .0)))
 

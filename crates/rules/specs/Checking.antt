@@ -1,4 +1,4 @@
--- The rule check of a list against a profile (01, "Power rules").
+-- The rule check of a list against a profile (STATEMENT, "The rule check").
 -- Assumes nothing.
 use mathlib.Core.Bool.{Bool, false, not}
 use mathlib.Core.List.{List, [], _∷_, _++_}
@@ -17,19 +17,19 @@ use Rattle.rules.specs.Tables.{Slot, Nothing, Fixed, Avs, Prog, slots}
 use Rattle.rules.specs.Currents.{fixedAllowed, progAllowed}
 use Rattle.rules.specs.Sets.{wrongSet}
 
--- "each current is allowed": where one is not. Those of AVS are the fixed ones (17)
+-- 19: "a current that is not allowed". Of AVS "nothing beyond its agreement with the fixed objects (17)" is asked
 unfoldable pub currentRefused : Profile → Slot → Object → Bool
 currentRefused p Nothing o = false
 currentRefused p (Fixed volts) o = ofFixed (λ v a. not (fixedAllowed p volts (a .0))) o
 currentRefused p (Avs past15V) o = false
 currentRefused p (Prog volts top) o = ofPps (λ x m a. not (progAllowed p volts (a .0))) o
 
--- 19, at the first such word. 18 comes before it, so each word stands at its slot
+-- at "the first word whose current is not allowed". The set comes first, so each word stands at its slot
 abbrev pub currentRows : Profile → List ℕ → ℕ → List Refusal
 currentRows p ws k =
     refusal (ofObject (currentRefused p (getD (slots (p .max .0)) k Nothing)) (decodeOf (getD ws k 0))) 19 (k + 1) ∷ []
 
--- 1 to 5, the shape's numbers, 18 over the whole list, then 19
+-- "1, 2, 3, 4, 5; then as shape; then 18; then 19 at the first such word"
 abbrev pub checkRefusals : Profile → Words → List Refusal
 checkRefusals p l =
     profileRefusals p

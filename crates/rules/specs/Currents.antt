@@ -1,4 +1,4 @@
--- Currents (01, "Power rules"; 004, tables 10-2, 10-3 and 10-7). P chooses them, and for PPS M does.
+-- Currents (STATEMENT, "The builder" and "The rule check"). P chooses them, and for PPS M does.
 -- Assumes nothing.
 use mathlib.Core.Bool.{Bool, cond, _&&_, _||_}
 use Prim.Native.Nat.{ℕ, zero, suc, _*_, min}
@@ -8,14 +8,14 @@ use Rattle.rules.specs.declared.Profile.{Profile}
 
 -- ---- fixed objects, in 10 mA
 
--- "The exact quotient in 10 mA is 50 P / V with V in volts", rounded down and up
+-- the quotient "of a fixed object of V volts is 50 P / V, in 10 mA": rounded down and up
 abbrev pub downAt : Profile → ℕ → ℕ
 downAt p volts = downOf (50 * p .present .0) volts
 
 abbrev pub upAt : Profile → ℕ → ℕ
 upAt p volts = upOf (50 * p .present .0) volts
 
--- "rounding (0 down, 1 up)"
+-- R "of the built fixed currents: 0 down, 1 up"
 abbrev pub roundedAs : ℕ → ℕ → ℕ → ℕ
 roundedAs zero down up = down
 roundedAs (suc n) down up = up
@@ -23,16 +23,16 @@ roundedAs (suc n) down up = up
 abbrev pub cable10mA : Profile → ℕ
 cable10mA p = p .cable * 100
 
--- "never above 3 A for 5, 9 and 15 V, never above the cable for 20 V"
+-- "at most 3 A at 5, 9 and 15 V, and at most the cable at 20 V"
 abbrev pub limitAt : Profile → ℕ → ℕ
 limitAt p volts = cond (eqb volts 20) (cable10mA p) 300
 
--- "Built current: the quotient rounded as the profile says", within its limit
+-- "Its current is the quotient rounded as R says", within its limit
 unfoldable pub builtCurrent : Profile → ℕ → ℕ
 builtCurrent p volts = min (roundedAs (p .rounding) (downAt p volts) (upAt p volts)) (limitAt p volts)
 
--- "Allowed at 5, 9, 15 V: if P exceeds 6 times the volts, from 3 A to the smaller of cable and the quotient rounded up; else the
--- quotient rounded either way. At 20 V: either rounding, cut to the cable."
+-- "What is allowed", the rows of fixed objects: at 5, 9 and 15 V where P > 6 V "from 3 A up to the smaller of the cable and the quotient
+-- rounded up", otherwise "the quotient rounded down, or rounded up"; at 20 V both "cut to the cable".
 unfoldable pub fixedAllowed : Profile → ℕ → ℕ → Bool
 fixedAllowed p volts a =
     cond (eqb volts 20)
@@ -43,25 +43,26 @@ fixedAllowed p volts a =
 
 -- ---- PPS, in 50 mA
 
--- "Current in 50 mA, rounded down: 10 M / 9, 2 M / 3, M / 2": M half watts by 9, 15 and 20 V, each 10 M / V
+-- "current before its limit, in 50 mA", "rounded down whatever R says": M half watts by 9, 15 and 20 V, each 10 M / V
 abbrev pub progDown : Profile → ℕ → ℕ
 progDown p volts = downOf (10 * p .max .0) volts
 
 abbrev pub cable50mA : Profile → ℕ
 cable50mA p = p .cable * 20
 
--- "at most 3 A for the first two, at most the cable for the third"
+-- "at most its limit": the cable for 20 V Prog, 3 A for the other two
 abbrev pub progLimit : Profile → ℕ → ℕ
 progLimit p volts = cond (eqb volts 20) (cable50mA p) 60
 
 unfoldable pub progCurrent : Profile → ℕ → ℕ
 progCurrent p volts = min (progDown p volts) (progLimit p volts)
 
--- "9 V Prog with 54 < M < 90 and 15 V Prog with 90 < M < 120"
+-- the rows "in addition": "15 V Prog, 90 < M < 120" and "9 V Prog, 54 < M < 90"
 abbrev pub mayExceed : ℕ → ℕ → Bool
 mayExceed m volts = (eqb volts 9 && (ltb 54 m && ltb m 90)) || (eqb volts 15 && (ltb 90 m && ltb m 120))
 
--- "PPS: the built figure, except that" these "may go up to the smaller of cable and the rounded-down quotient"
+-- "the figure that is built", and of these two "in addition" "from the built figure up to the smaller of the cable and" the figure before
+-- its limit, rounded down
 unfoldable pub progAllowed : Profile → ℕ → ℕ → Bool
 progAllowed p volts a =
     eqb a (progCurrent p volts)

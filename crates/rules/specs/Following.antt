@@ -1,5 +1,6 @@
--- How the rule check follows a list along the tables: parts of `checkedOf`, named for the functions that work them out. That they
--- decide the set of objects and find the first current that is not allowed is proved in proofs/Followed and proofs/SetLaw.
+-- How the rule check follows a list along the tables (STATEMENT, "The rule check"): parts of `checkedOf`, named for the functions that
+-- work them out. That they decide the set of objects and find the first current that is not allowed is proved in proofs/Followed and
+-- proofs/SetLaw.
 -- Assumes nothing.
 use mathlib.Core.Bool.{Bool, true, not, _&&_, _||_, cond}
 use mathlib.Core.List.{List}

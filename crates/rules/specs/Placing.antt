@@ -1,4 +1,5 @@
--- The word at a place of a list that is built.
+-- The word at a place of a list that is built (STATEMENT, "Places": "asking for the word at a place of a built list without building the
+-- rest").
 -- Assumes nothing.
 use mathlib.Core.Bool.{cond}
 use Prim.Native.Nat.{ℕ, _-_}
@@ -11,7 +12,7 @@ use Rattle.rules.specs.declared.Placed.{Placed}
 use Rattle.rules.specs.declared.Placed.the-variants.{Word, NoPlace}
 use Rattle.rules.specs.Building.{wordFor, builtCount}
 
--- What each answer says: 01's number, and the word. 20: "position not 1..count".
+-- What each answer says: its refusal number, and the word. 20: "where the place is outside 1 to the count".
 abbrev pub placedSays : Placed → ℕ × ℕ
 placedSays (Word w) = (0, w)
 placedSays NoPlace = (20, 0)

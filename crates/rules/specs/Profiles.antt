@@ -1,4 +1,4 @@
--- The profile of a port (01, "Power rules" and "Refusal numbers").
+-- The profile of a port (STATEMENT, "The profile" and "Refusal numbers").
 -- Assumes nothing.
 use mathlib.Core.Bool.{Bool, not, _&&_, _||_}
 use mathlib.Core.List.{List, [], _∷_, _++_}
@@ -10,7 +10,7 @@ use Rattle.steps.specs.declared.HalfWatts.{HalfWatts}
 use Rattle.rules.specs.declared.Profile.{Profile}
 use Rattle.rules.specs.declared.Profiled.{Profiled}
 
--- 3: "cable not 3 or 5"
+-- 3: "cable neither 3 nor 5"
 abbrev pub badCable : ℕ → Bool
 badCable amperes = not (eqb amperes 3 || eqb amperes 5)
 
@@ -27,7 +27,7 @@ profileRows m p cable rounding pps flags =
 abbrev pub profileRefusals : Profile → List Refusal
 profileRefusals p = profileRows (p .max .0) (p .present .0) (p .cable) (p .rounding) (p .pps) (p .flags)
 
--- 6: "PPS wanted and P < M (builder only)"
+-- 6: "PPS wanted while P is below M; the builder alone"
 abbrev pub ppsBelowMaximum : Profile → Bool
 ppsBelowMaximum p = eqb (p .pps) 1 && ltb (p .present .0) (p .max .0)
 
@@ -45,7 +45,7 @@ pub record Within (p : Profile) : Type 0 where
 abbrev pub halfWatts : ℕ → HalfWatts
 halfWatts n = record { 0 = n }
 
--- "The default profile from M alone is P = M, 3 A cable, down, no PPS, F = 0."
+-- "P equal to M, a 3 A cable, rounding down, no PPS and no flags"
 abbrev pub defaults : HalfWatts → Profile
 defaults m = record { max = m; present = m; cable = 3; rounding = 0; pps = 0; flags = 0 }
 

@@ -1,5 +1,5 @@
--- The set of objects that a list must have (01, "Power rules"): "it has exactly these fixed voltages and AVS, no battery or variable
--- object, and no PPS or exactly that PPS set with those ranges (.. flags, peak current and the power limited bit don't matter to it)".
+-- The set of objects that a list must have (STATEMENT, "The rule check", 18). "The check does not look at flags, peak currents and the
+-- power limited bit".
 -- Assumes nothing.
 use mathlib.Core.Bool.{Bool, true, false, not, _&&_, _||_, Bool·beq, cond}
 use mathlib.Core.List.{List, [], _∷_}
@@ -45,7 +45,7 @@ abbrev pub eachOnce : List Slot → Words → Bool
 eachOnce [] l = true
 eachOnce (s ∷ ss) l = one (fits s) l && eachOnce ss l
 
--- "exactly these": each of them once, and of their kind no other
+-- "exactly": each of them once, and of their kind no other
 abbrev pub exactly : (Object → Bool) → List Slot → Words → Bool
 exactly kind ss l = eachOnce ss l && none (λ (o : Object). kind o && not (fitsOne ss o)) l
 
@@ -67,11 +67,12 @@ isBatteryOrVariable (object.Variable x m a) = true
 isBatteryOrVariable (object.Pps l x m a) = false
 isBatteryOrVariable (object.Avs p l h) = false
 
--- "exactly these fixed voltages and AVS, no battery or variable object"
+-- "exactly the fixed voltages and the AVS that M calls for", "no battery and no variable object"
 abbrev pub rightBase : ℕ → Words → Bool
 rightBase m l = exactly isFixed (fixedSlots m rails) l && (exactly isAvs (avsSlots m) l && none isBatteryOrVariable l)
 
--- "no PPS or exactly that PPS set"; "A list with PPS where P < M fails with 18"
+-- "either no PPS object, or, where P is equal to M, exactly the programmable supplies of M with their minimum and maximum"; "A PPS object
+-- where P is below M is thus refused"
 abbrev pub rightPps : Profile → Words → Bool
 rightPps p l = none isPps l || (not (ltb (p .present .0) (p .max .0)) && exactly isPps (progSlots (p .max .0)) l)
 

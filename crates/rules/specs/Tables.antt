@@ -1,4 +1,4 @@
--- Which objects a port's list has, by its maximum M alone (01, "Power rules"; 004, tables 10-2, 10-7 and 10-8).
+-- Which objects a port's list has (STATEMENT, "Which objects": "M alone decides which objects a port has, never P.").
 -- Assumes nothing.
 use mathlib.Core.Bool.{Bool, true, false, _&&_}
 use mathlib.Core.List.{List, [], _∷_, _++_}
@@ -19,7 +19,7 @@ abbrev pub slotIf : Bool → Slot → List Slot
 slotIf true s = s ∷ []
 slotIf false s = []
 
--- "a fixed table of four rows: voltage and the M it must exceed"
+-- "The fixed objects come from four rows": voltage, "there when M is above"
 abbrev pub row : ℕ → ℕ → Rail
 row volts above = record { volts = volts; above = record { 0 = above } }
 
@@ -34,14 +34,15 @@ abbrev pub fixedSlots : ℕ → List Rail → List Slot
 fixedSlots m [] = []
 fixedSlots m (r ∷ rs) = slotIf (exceeds m r) (Fixed (r .volts)) ++ fixedSlots m rs
 
--- "AVS is present exactly when M > 54; its second current is 0 when M ≤ 90."
+-- "There is one AVS object when M is above 54, and none otherwise. Its second current is zero when M is 90 or less, and not zero above
+-- that."
 abbrev pub avsSlots : ℕ → List Slot
 avsSlots m = slotIf (ltb 54 m) (Avs (ltb 90 m))
 
 unfoldable pub baseSlots : ℕ → List Slot
 baseSlots m = fixedSlots m rails ++ avsSlots m
 
--- "9 V Prog (5 to 11 V) when 30 < M < 90; 15 V Prog (5 to 16 V) when 54 < M < 120; 20 V Prog (5 to 21 V) when M > 90."
+-- "The programmable supplies, in this order": each with its "maximum" and "there when"
 unfoldable pub progSlots : ℕ → List Slot
 progSlots m =
     slotIf (ltb 30 m && ltb m 90) (Prog 9 110) ++ slotIf (ltb 54 m && ltb m 120) (Prog 15 160) ++ slotIf (ltb 90 m) (Prog 20 210)

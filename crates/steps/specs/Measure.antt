@@ -1,4 +1,4 @@
--- A figure in one step of measure, given in another: 01, "Steps of measure".
+-- A figure in one step of measure, given in another (STATEMENT, "Steps of measure").
 -- Assumes nothing.
 use mathlib.Core.Bool.{Bool, true, false, _&&_}
 use Prim.Native.Nat.{ℕ, _*_}
@@ -21,11 +21,11 @@ use Rattle.steps.specs.declared.InMa50.the-variants as ma50
 
 -- ---- what is to be answered
 
--- "Converting one loses nothing": m steps of this size are the same measure, and m fits 16 bits.
+-- "The conversion gives the exact figure": m steps of this size are the same measure, and m fits 16 bits.
 abbrev pub stands : ℕ → ℕ → ℕ → Bool
 stands measure step m = eqb (m * step) measure && ltb m 65536
 
--- ".. or refuses": whether it is refused, and the figure, zero where it is. 01 has no number for this refusal.
+-- ".. or refuses": whether it is refused, and the figure, zero where it is. This refusal has no number.
 abbrev pub orRefused : Bool → ℕ → Bool × ℕ
 orRefused true m = (false, m)
 orRefused false m = (true, 0)
@@ -38,7 +38,7 @@ countOf measure step = orRefused (stands measure step (downOf measure step)) (do
 unfoldable pub convertedOf : ℕ → ℕ → ℕ → Bool × ℕ
 convertedOf figure from to = countOf (figure * from) to
 
--- ---- what each answer says: "Each step is kept apart", so the answer in each step has a type of its own
+-- ---- what each answer says: "Each step has a type of its own", and so has the answer in it
 
 abbrev pub scaledSays : Scaled → Bool × ℕ
 scaledSays (Exactly m) = (false, m)

@@ -1,4 +1,4 @@
--- What each function promises of its result r.
+-- What each function promises of its result r (STATEMENT, "Steps of measure").
 use mathlib.Core.Path.{_≡_}
 use Prim.Native.Nat.{ℕ}
 use Rattle.steps.specs.Rounding.{downOf, upOf}
@@ -11,19 +11,19 @@ use Rattle.steps.specs.declared.InMv100.{InMv100}
 use Rattle.steps.specs.declared.InMa10.{InMa10}
 use Rattle.steps.specs.declared.InMa50.{InMa50}
 
--- 01, "What the contracts settle": rounding, over numerator and divisor.
+-- rounding, over numerator and divisor
 abbrev pub RoundedDown : ℕ → ℕ → ℕ → Type 0
 RoundedDown q d r = r ≡ downOf q d
 
 abbrev pub RoundedUp : ℕ → ℕ → ℕ → Type 0
 RoundedUp q d r = r ≡ upOf q d
 
--- 01, "Steps of measure": "converting one loses nothing or refuses". The figure counts steps of the size `from`, in mV for a
--- voltage and in mA for a current.
+-- "The conversion gives the exact figure, or refuses". The figure counts steps of the size `from`, in mV for a voltage and in mA for a
+-- current.
 abbrev pub Rescaled : ℕ → ℕ → ℕ → Scaled → Type 0
 Rescaled figure from to r = scaledSays r ≡ convertedOf figure from to
 
--- The same, with the answer in the type of its own step ("Each step is kept apart").
+-- The same, with the answer in the type of its own step ("Each step has a type of its own").
 abbrev pub ConvertedToMv20 : ℕ → ℕ → InMv20 → Type 0
 ConvertedToMv20 figure from r = mv20Says r ≡ convertedOf figure from 20
 

@@ -1,4 +1,5 @@
--- From the lowest to the highest, both allowed: `M outside 1..200`, `PPS voltage lies from min to max`.
+-- From the lowest to the highest, both allowed, as STATEMENT has it: "M outside 1 to 200", "of a PPS object from its minimum to its
+-- maximum".
 -- Assumes nothing.
 use mathlib.Core.Bool.{Bool, _&&_}
 use Prim.Native.Nat.{ℕ}

@@ -1,4 +1,4 @@
--- What a figure stands for, in millivolts, milliamperes and milliwatts (01, "Steps of measure").
+-- What a figure stands for, in millivolts, milliamperes and milliwatts (STATEMENT, "Steps of measure").
 -- Assumes nothing.
 use Prim.Native.Nat.{ℕ, _*_}
 use Rattle.steps.specs.declared.Mv20.{Mv20}

@@ -204,7 +204,7 @@ first-of-refusal (refusal false n p ∷ rs) f =
       clear = (refl, r .clear);
     }
 
--- success exactly when no refusal applies, and number n with its place exactly when refusal n applies there and none before it does
+-- success exactly when no refusal applies, and number n at its place exactly when that refusal applies and no earlier one does
 pub record Exactly (rs : List Refusal) : Type 0 where
   pub succeeds : verdictOf rs ≡ success ↔ NoneApply rs
   pub refuses : (n p : ℕ) → (n ≡ 0 → ⊥) → verdictOf rs ≡ verdict n p ↔ First rs n p

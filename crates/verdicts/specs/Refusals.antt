@@ -1,4 +1,4 @@
--- Refusals in order (01, "Refusal numbers"): the refusals of a call are a table of rows, and the first row that applies is the answer.
+-- Refusals in order (STATEMENT, "Order"): a call has a table of refusals, one a row, and the first row that applies is the answer.
 -- Assumes nothing.
 use mathlib.Core.Bool.{Bool, true, false}
 use mathlib.Core.List.{List, [], _∷_, _++_}
@@ -23,7 +23,7 @@ firstOf refused (refusal false n p ∷ rs) answer = firstOf refused rs answer
 abbrev pub verdict : ℕ → ℕ → Verdict
 verdict n p = record { number = n; place = p }
 
--- "Success is 0, place 0."
+-- "Success is 0 at place 0."
 abbrev pub success : Verdict
 success = verdict 0 0
 

@@ -14,7 +14,7 @@ use Rattle.rules.proofs.PutDown.{supply-put, room, said-as}
 use Rattle.rules.proofs.building.put_supplies.Statement.{statement}
 use Rattle.rules.proofs.building.put_supplies.Tie as tie
 
--- "PPS, only when wanted"
+-- "when W is 1, the programmable supplies"
 abbrev counted : ℕ → Bool → ℕ
 counted m wanted = cond wanted (length (slots m)) (length (baseSlots m))
 

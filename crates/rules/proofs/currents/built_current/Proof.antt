@@ -1,4 +1,4 @@
--- `rules::currents::built_current` meets its contract: the quotient rounded as the profile says, within its limit.
+-- `rules::currents::built_current` meets its contract: the quotient "rounded as R says", within its limit.
 -- Assumes nothing.
 use mathlib.Core.Path.{ap₂, sym, _∙_}
 use Prim.Native.Nat.{min}
