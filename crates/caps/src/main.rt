@@ -1,4 +1,4 @@
-// The listing program (01, "The listing program"): one line for each record of eight bytes on standard input.
+// The listing program (STATEMENT, "The listing program"): one line for each record of eight bytes on standard input.
 mod blocks;
 mod records;
 

@@ -1,4 +1,4 @@
-// A record taken apart: "M and P (two bytes each, low first), cable, rounding, PPS wanted, F".
+// A record taken apart (STATEMENT, "The listing program"): eight bytes, M and P with the low byte first.
 ghost use mathlib.Core.Path.{_≡_};
 ghost use Prim.Native.Nat.{_+_, _*_, _≤_};
 ghost use lib.ListN.{length};

@@ -40,7 +40,7 @@ pub(crate) fn is_built(p: Profile, wanted: Words) -> bool {
     is_listing(built, wanted) && checks(p, wanted, 0, 0)
 }
 
-// 01: "A case by M alone uses the default profile."
+// "Where only M is given the profile is the default one."
 pub(crate) fn is_default(max: u16, wanted: Words) -> bool {
     let d = rules::default_profile(HalfWatts(max));
     let verdict = d.verdict;

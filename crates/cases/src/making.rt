@@ -1,4 +1,4 @@
-// Profiles and words from figures as the documents write them: watts, volts, and currents in 10 mA. An object whose
+// Profiles and words from figures as they are written down: watts, volts, and currents in 10 mA. An object whose
 // current is NONE is not there.
 use lists::NO_WORDS;
 use lists::Words;
@@ -31,7 +31,7 @@ fn half_watts(watts: u8) -> u16 {
     (watts as u16) * 2
 }
 
-// The same in watts, in the order of table 10-4: port maximum and cable, then port present.
+// The same in watts, in the order of the notice's table 10-4: port maximum and cable, then port present.
 pub(crate) fn port(maximum: u8, cable: u8, present: u8, rounding: u8, pps: u8) -> Profile {
     profile(
         half_watts(maximum),
@@ -42,7 +42,7 @@ pub(crate) fn port(maximum: u8, cable: u8, present: u8, rounding: u8, pps: u8) -
     )
 }
 
-// Fixed: 19..10 voltage (50 mV), 9..0 current (10 mA).
+// A fixed object: voltage in 50 mV, current in 10 mA.
 fn fixed(volts: u8, current: u32) -> u32 {
     if current == NONE {
         return 0;
@@ -51,7 +51,7 @@ fn fixed(volts: u8, current: u32) -> u32 {
     (in_50_mv << 10) | current
 }
 
-// AVS: 1110b, 19..10 current for 9 to 15 V, 9..0 current for 15 to 20 V (10 mA).
+// AVS, 1110b: the first current, then the second, in 10 mA.
 fn avs(to_15_v: u32, to_20_v: u32) -> u32 {
     if to_15_v == NONE && to_20_v == NONE {
         return 0;
@@ -59,7 +59,7 @@ fn avs(to_15_v: u32, to_20_v: u32) -> u32 {
     0xE0000000 | (to_15_v << 10) | to_20_v
 }
 
-// PPS: 1100b, bit 27 power limited, 24..17 max voltage, 15..8 min voltage (100 mV; 50 is 5 V), 6..0 current (50 mA).
+// PPS, 1100b, with power limited set: maximum and minimum in 100 mV (50 is 5 V), current in 50 mA.
 fn prog(top: u8, current: u32) -> u32 {
     if current == NONE {
         return 0;
@@ -105,7 +105,7 @@ pub(crate) fn offers(
     with_word(list, avs(to_15_v, to_20_v))
 }
 
-// With 9 V Prog, 15 V Prog and 20 V Prog, whose ranges end at 11, 16 and 21 V (table 10-8).
+// With 9 V Prog, 15 V Prog and 20 V Prog, whose ranges end at 11, 16 and 21 V.
 pub(crate) fn with_progs(list: Words, prog_9_v: u32, prog_15_v: u32, prog_20_v: u32) -> Words {
     let list = with_word(list, prog(11, prog_9_v));
     let list = with_word(list, prog(16, prog_15_v));

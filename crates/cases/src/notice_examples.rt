@@ -1,4 +1,4 @@
-// The examples of the notice, 10.2.3.2.2, each rounded down, and the same ports without PPS (table 10-2).
+// The example lists of the change notice (its 10.2.3.2.2), each rounded down, and the same ports without PPS.
 use crate::expecting::checks;
 use crate::expecting::is_built;
 use crate::making::DOWN;
@@ -59,8 +59,8 @@ fn raised(cable: u8, prog_9_v: u32, number: u8, place: u8) -> bool {
     checks(wanting_pps(36, cable), list, number, place)
 }
 
-// Example 3, "9V Prog @ >3A up to 4A (with a 5A cable)": a choice that the rule check leaves and the builder does not
-// take. 9 V Prog is word 5.
+// Example 3, 9 V Prog from 3 A to 4 A on a 5 A cable: a choice that the rule check leaves and the builder does not take. 9 V Prog is
+// word 5.
 fn of_36_w_raised() {
     let lowest = raised(5, 305, 0, 0);
     let highest = raised(5, 400, 0, 0);
@@ -84,19 +84,19 @@ fn of_50_w() {
     tell(b"50 W without PPS", without_pps(50, 3, base));
 }
 
-// Example 5. It has "15V Prog @ 3A" too. Table 10-7 has none there (60 < x < 100W), and 01 decides: "15 V Prog (5 to 16 V)
-// when 54 < M < 120", and M is 160. 20 V at 4 A needs the 5 A cable.
+// Example 5, which "prints a 15 V Prog that the rules above do not have for 80 W" (STATEMENT, "Worked by hand"). 20 V at 4 A needs
+// the 5 A cable.
 fn of_80_w() {
     let base = offers(300, 300, 300, 400, 300, 400);
     let right = with_pps(80, 5, base, NONE, NONE, 400);
     tell(
-        b"80 W with PPS, by 01: the notice's example less its 15 V Prog",
+        b"80 W with PPS: the notice's example less its 15 V Prog",
         right,
     );
     let of_notice = with_progs(base, NONE, 300, 400);
     let refused = checks(wanting_pps(80, 5), of_notice, 18, 0);
     tell(
-        b"80 W with PPS, the notice's example with its 15 V Prog: 18 by 01",
+        b"80 W with PPS, the notice's example with its 15 V Prog: 18",
         refused,
     );
     tell(b"80 W without PPS", without_pps(80, 5, base));

@@ -1,4 +1,5 @@
-// Table 10-4 of the notice, row by row. 01: "with the rounding each row used (up at 40 W, down at 20 W)".
+// Table 10-4 of the change notice: "the rows of 40 W come out by rounding up and those of 20 W by rounding down"
+// (STATEMENT, "Worked by hand").
 // 40 W / 15 V = 2.667 A is written 2.67; 20 W / 9 V = 2.222 A is written 2.22, 20 W / 15 V = 1.333 A is written 1.33.
 // 65 W / 20 V = 3.25 A is exact, and what exceeds 3 A at 5, 9 and 15 V is 3 A: either rounding gives that row.
 use crate::expecting::is_built;

@@ -44,7 +44,7 @@ fn take_profile(line: &[u8], at: usize) -> ProfileFields {
     }
 }
 
-// "A list is always given as its count and seven words."
+// A list is typed as its count and all seven words, also where the count is less.
 fn take_list(line: &[u8], at: usize) -> WordFields {
     let count = take_small_number(line, at);
     let a = take_word(line, count.next);

@@ -42,7 +42,7 @@ fn row_of(table: Table, standing: Standing, port: u8) -> Row {
     row_at(table, at)
 }
 
-// A refusal names the count, which is no row: "rows are not written".
+// A refusal names the count, which is no row: "on a refusal none is" written.
 fn written(table: Table, at: usize, row: Row) -> Table
     ensures refused { λ r. ⌜ (table .count ≤ at → r ≡ table) ⌝ }
     ensures placed { λ r. ⌜ (at < table .count → at < 9 → r .rows ≡ set (table .rows) at row) ⌝ }
@@ -54,7 +54,7 @@ fn written(table: Table, at: usize, row: Row) -> Table
     with_row(table, at, row)
 }
 
-// "Set-up .. empties all ports". What stands past the count is never shown.
+// Set-up "empties every port". What stands past the count is never shown.
 fn all_emptied(table: Table) -> Table {
     let mut rows = table.rows;
     let mut i: usize = 0;

@@ -17,7 +17,7 @@ struct Console {
     open: bool,
 }
 
-// "A line it cannot read (.. more than 512 bytes)".
+// A line of more than 512 bytes cannot be read.
 const TOO_LONG: usize = 513;
 
 // Answers the line in hand and begins the next one.
@@ -125,7 +125,7 @@ fn serve_blocks(line: &mut [u8; 512], out: &mut [u8; 4096]) -> Console {
     console
 }
 
-// "The end of the input ends it, also in the middle of a line (that line still counts)."
+// The end of the input ends the console. A line that it cuts off is answered first.
 fn end_input(line: &[u8; 512], out: &mut [u8; 4096], console: Console) {
     if console.length == 0 {
         return;

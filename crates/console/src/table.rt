@@ -43,7 +43,7 @@ fn row_of(max: u16, pps: u8, cable: u8, present: u16, held: u16) -> Row {
     }
 }
 
-// "which start as no rows at all"
+// Before the first `rows` line there is no row.
 pub(crate) fn no_rows() -> Table {
     Table {
         rows: [NO_ROW; 9],
@@ -97,7 +97,7 @@ fn take_row(line: &[u8], at: usize) -> RowField {
     }
 }
 
-// "five numbers for each row (.. up to 9 rows, none allowed)"
+// Five numbers a row, for none to nine rows.
 fn take_table(line: &[u8], at: usize) -> TableFields {
     let mut table = no_rows();
     let mut next = at;

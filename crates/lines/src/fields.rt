@@ -72,7 +72,7 @@ fn number_between(start: usize, end: usize, value: u16) -> Number
     Number { value, next: end }
 }
 
-// "Numbers are decimal", and "a number too large for its parameter" cannot be read.
+// A decimal number. One that its parameter cannot hold is not read.
 fn number_up_to(line: &[u8], start: usize, most: u16) -> Number
     ensures { λ r. ⌜ r .value ≤ most ⌝ }
 {
@@ -171,7 +171,7 @@ fn four_digits(line: &[u8], at: usize) -> u32
     high * 256 + low
 }
 
-// "words of 32 bits are 8 hex digits, small or capital".
+// A word: eight hex digits, small and capital letters alike.
 pub fn take_word(line: &[u8], at: usize) -> Word {
     let start = past_space(line, at);
     if line.len() <= start {

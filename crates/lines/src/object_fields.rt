@@ -138,7 +138,7 @@ fn take_object(line: &[u8], at: usize) -> ObjectField {
     }
 }
 
-// "`write` takes exactly N objects where N is 1 to 7, and none otherwise".
+// As many objects as the count says, and none where it is outside 1 to 7.
 fn objects_in(count: u8) -> usize {
     if 7 < count {
         return 0;

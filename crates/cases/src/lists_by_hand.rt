@@ -1,4 +1,4 @@
-// 01, "Checked by hand": the lists. M and P are in half watts, currents in 10 mA.
+// STATEMENT, "Worked by hand": the lists. M and P are in half watts, currents in 10 mA.
 use crate::expecting::is_built;
 use crate::expecting::is_default;
 use crate::making::DOWN;
@@ -43,10 +43,10 @@ fn marked_by_m() {
     let right = by_m(55, 300, 300, 183, NONE, 183, NONE);
     tell(b"M 55: 15 V at 183", right);
     let right = by_m(80, 300, 300, 266, NONE, 266, NONE);
-    tell(b"M = P = 80, down: 300, 300, 266; AVS 266 and 0", right);
+    tell(b"M 80: fixed 300, 300, 266; AVS 266 and 0", right);
 }
 
-// The words that the listing prints, as 01 has them.
+// The words of the line in STATEMENT, "The listing program".
 fn listing() -> Words {
     Words {
         words: [
@@ -88,12 +88,12 @@ fn marked_by_profile() {
     tell(b"the listing, 36 W", is_built(p, listing()));
     let p = profile(160, 80, 5, UP, NO_PPS);
     tell(
-        b"M 160, P 80, 5 A, up: 300, 300, 267, 200; AVS word E0042CC8",
+        b"M 160, P 80, 5 A, up: fixed 300, 300, 267, 200; AVS word E0042CC8",
         is_built(p, rounded_up()),
     );
     let p = profile(160, 130, 5, DOWN, NO_PPS);
     tell(
-        b"L: M 160, P 130, 5 A, down: 300, 300, 300, 325; AVS 300 and 325",
+        b"L, M 160, P 130, 5 A, down: fixed 300, 300, 300, 325; AVS 300 and 325",
         is_built(p, list_l()),
     );
 }
