@@ -1,4 +1,4 @@
-"""The console of CONSOLE.md over the model: one call a line, one line each.
+"""The console of docs/CONSOLE.md over the model: one call a line, one line each.
 
 What the page leaves open is decided in NOTES.md, under "The console".
 """
@@ -37,7 +37,7 @@ class Unreadable(Exception):
 
 
 class State:
-    """The console's own port rows, which start as no rows at all."""
+    """The console's own port rows. Before the first `rows` line there is none."""
 
     def __init__(self):
         self.rows = []
@@ -77,7 +77,7 @@ class Fields:
         return int(field, 16)
 
     def words(self):
-        """A list is always given as its count and seven words."""
+        """A list: its count and all seven words, also where the count is less."""
         count = self.byte()
         return Words(count, tuple(self.word() for _ in range(charger.PLACES_IN_A_LIST)))
 
@@ -91,7 +91,7 @@ class Fields:
         return kind(*[self.number(most) for most in largest])
 
     def objects(self):
-        """Exactly N objects where N is 1 to 7, and none otherwise."""
+        """As many objects as the count says, and none where it is outside 1 to 7."""
         count = self.byte()
         given = [self.one_object() for _ in range(count)] if 1 <= count <= 7 else []
         return Objects(count, charger.list_of_objects(given).places)
@@ -162,7 +162,7 @@ def taken(fields, takers):
 
 
 def set_rows(state, fields):
-    """Five numbers for each row; up to 9 rows, none allowed."""
+    """Five numbers a row, for none to nine rows."""
     rows = []
     while fields.left:
         rows.append(fields.row())

@@ -4,7 +4,7 @@
 
 The seed is fixed: the same files come out each time. Each file of inputs/ makes
 one kind of line; unreadable lines are strewn over all of them. At the end the
-lines are counted by refusal number, and a number of 01's table that was given
+lines are counted by refusal number, and a number of the statement's table that was given
 fewer than 20 times fails the run.
 """
 

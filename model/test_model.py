@@ -1,4 +1,4 @@
-"""Tests of the model: the cases of 01, of the console's page and of the notice,
+"""Tests of the model: the cases of the statement, of the console's page and of the notice,
 and properties over seeded random inputs. Ends with `N passed, 0 failed`."""
 
 import sys

@@ -1,14 +1,14 @@
-"""The charger port power rules of docs/01-scope.md ("01"), as a plain model.
+"""What docs/STATEMENT.md states ("the statement"), as a plain model.
 
-Written from the words of 01, in the order of 01, and from nothing else. Every
-function states its sentence of 01. All arithmetic is on whole numbers: fields
+In the order of the statement, and from nothing else: see NOTES.md. Every
+function states its sentence of it. All arithmetic is on whole numbers: fields
 keep the step of their kind, and two figures of different steps meet only as
 millivolts, milliamperes and microwatts (mV times mA), so nothing is lost.
 
 A public call returns Answer(number, place, value); see "Refusal numbers".
 """
 
-# Every name of the model, file by file, in the order of 01.
+# Every name of the model, file by file, in the order of the statement.
 from charger.refusals import Answer, Refused, refuse_if, public_call
 from charger.measure import (
     MICROWATTS_IN_250_MW, MICROWATTS_IN_HALF_WATT, MICROWATTS_IN_100_W, rounded_down, rounded_up,

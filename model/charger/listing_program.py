@@ -7,10 +7,8 @@ RECORD_BYTES = 8
 
 
 def listing(data):
-    """What caps prints for its input, line by line: the refusal number, the
-    count, then each word as 8 capital hex digits, one space between fields.
-    M and P are two bytes each, low first; then cable, rounding, PPS wanted, F.
-    A last record of 1 to 7 bytes prints `9 0`."""
+    """What caps prints for its input, line by line. Where one to seven bytes
+    are left at the end, they print `9 0`, whatever they are."""
     for start in range(0, len(data), RECORD_BYTES):
         record = data[start : start + RECORD_BYTES]
         if len(record) < RECORD_BYTES:

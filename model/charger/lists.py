@@ -5,9 +5,10 @@ from collections import namedtuple
 from charger.object_words import Fixed
 from charger.refusals import refuse_if
 
-# "A list in hand is seven places and a count; places past the count are
-# returned as zero (an object as fixed, all fields zero) and not read on the
-# way in."
+# "A list, of words or of objects, is seven places and a count. Only the places
+# up to the count are looked at. Where a list is given back, the places past its
+# count are zero; in a list of objects such a place is a fixed object with all
+# its fields zero."
 PLACES_IN_A_LIST = 7
 
 Words = namedtuple("Words", "count places")
@@ -38,5 +39,5 @@ def held_in(a_list):
 
 
 def refuse_bad_count(a_list):
-    """10: count not 1..7."""
+    """10: count outside 1 to 7."""
     refuse_if(not 1 <= a_list.count <= PLACES_IN_A_LIST, 10)

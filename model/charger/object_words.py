@@ -2,7 +2,8 @@
 
 from collections import namedtuple
 
-# "A decoded object is one of five kinds with the fields of its own kind."
+# "An object that is taken apart has one of the five kinds and the fields of this
+# kind only."
 Fixed = namedtuple("Fixed", "flags peak volts current")      # 50 mV, 10 mA
 Battery = namedtuple("Battery", "max min power")             # 50 mV, 250 mW
 Variable = namedtuple("Variable", "max min current")         # 50 mV, 10 mA
@@ -13,7 +14,7 @@ Avs = namedtuple("Avs", "peak low high")                     # 10 mA: 9..15 V, 1
 # field of it is read, and it has no word.
 NoKind = namedtuple("NoKind", "")
 
-# "Within a kind each field is taken by its bit places" (high bit, low bit).
+# "The fields of each kind", by their bits (high bit, low bit).
 PLACES = {
     Fixed: ((29, 23), (21, 20), (19, 10), (9, 0)),
     Battery: ((29, 20), (19, 10), (9, 0)),
@@ -37,7 +38,7 @@ RESERVED = {
     Pps: ((26, 25), (16, 16), (7, 7)),
     Avs: ((25, 20),),
 }
-# "After the first word bits 29..22 are all reserved."
+# "fixed, any later word"
 RESERVED_IN_LATER_FIXED = ((29, 22),)
 
 
@@ -46,9 +47,9 @@ def bits(word, high, low):
 
 
 def kind_of(word):
-    """The kind is read from bits 31..30, and for 11b from bits 29..28.
-    1101b (EPR AVS) and 1111b are not allowed: they have no kind. Nor has what
-    has no word."""
+    """The kind of a word is in bits 31..30; where these are 11b, bits 29..28
+    tell which. Those that are not allowed have no kind here. Nor has what has
+    no word."""
     if word is None:
         return None
     top = bits(word, 31, 30)
@@ -79,14 +80,14 @@ def encode(obj):
 
 
 def has_field_too_wide(obj):
-    """7: a field too wide for its bits."""
+    """7: a field does not fit its bits."""
     if isinstance(obj, NoKind):
         return False
     return any(figure >> (high - low + 1) for figure, (high, low) in zip(obj, PLACES[type(obj)]))
 
 
 def has_reserved_bit(kind, word, place):
-    """13: reserved bit set in an object."""
+    """13: a reserved bit of an object is set."""
     reserved = RESERVED[kind]
     if kind is Fixed and place > 1:
         reserved = RESERVED_IN_LATER_FIXED

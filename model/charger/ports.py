@@ -10,7 +10,7 @@ from charger.requests import granted, operating_figure, requested_current, reque
 from charger.rules import DOWN, Profile, build
 from charger.shapes import shaped
 
-# "one row for each port: M, PPS wanted, cable (0 when empty), P, held power"
+# "A caller keeps a row for each port": the fields of its table, in their order.
 Row = namedtuple("Row", "m pps cable p held")
 
 LEAST_HELD = 15
@@ -18,7 +18,7 @@ MOST_CAPACITY = 1600
 
 
 def emptied(row):
-    """Empty means cable 0, P 0, held 15."""
+    """The column of an empty port: cable 0, P 0, held 15."""
     return row._replace(cable=0, p=0, held=LEAST_HELD)
 
 
@@ -27,8 +27,8 @@ def is_attached(row):
 
 
 def rule_list(row):
-    """The list built for its M, P and cable, rounded down, F = 0, with PPS
-    exactly where wanted and P = M."""
+    """The rule list: rounded down, without flags, and with PPS exactly where
+    PPS is wanted and P is equal to M."""
     pps = 1 if row.pps == 1 and row.p == row.m else 0
     return build(Profile(row.m, row.p, row.cable, DOWN, pps, 0)).value
 
@@ -38,13 +38,13 @@ def all_held(rows):
 
 
 def left_for(capacity, rows, port):
-    """Capacity less the other rows' held."""
+    """What the others leave for a port is the capacity less what all other
+    rows hold."""
     return capacity - (all_held(rows) - rows[port - 1].held)
 
 
 def is_sound(row):
-    """M is 15..200, PPS is 0 or 1, an empty port is as above, an attached one
-    has cable 3 or 5 and 15 <= held <= P <= M."""
+    """Each row is as the table says, for an empty and for an attached port."""
     if not 15 <= row.m <= 200 or row.pps > 1:
         return False
     if is_attached(row):
@@ -53,13 +53,15 @@ def is_sound(row):
 
 
 def refuse_bad_table(capacity, rows):
-    """30: row count not 1..8. 32: capacity outside 15 times rows .. 1600."""
+    """30: number of rows outside 1 to 8. 32: capacity outside 15 times the
+    number of rows to 1600."""
     refuse_if(not 1 <= len(rows) <= 8, 30)
     refuse_if(not 15 * len(rows) <= capacity <= MOST_CAPACITY, 32)
 
 
 def refuse_unsound(capacity, rows):
-    """30, 32, then 37: the first row at fault, or 0 when only the sum is."""
+    """30, 32, 37. Of 37, a row at fault comes before the sum, wherever it
+    stands."""
     refuse_bad_table(capacity, rows)
     for place, row in enumerate(rows, 1):
         refuse_if(not is_sound(row), 37, place)
@@ -67,26 +69,27 @@ def refuse_unsound(capacity, rows):
 
 
 def refuse_bad_port(rows, port):
-    """33: port not 1..rows."""
+    """33: port outside 1 to the number of rows."""
     refuse_if(not 1 <= port <= len(rows), 33)
 
 
 def refuse_empty(rows, port):
-    """35: port not attached."""
+    """35: the port is not attached."""
     refuse_if(not is_attached(rows[port - 1]), 35, port)
 
 
 def advertised(capacity, rows, port, cable):
-    """Attach and advertise set P to the smaller of M and capacity less the
-    other rows' held, and return the list."""
+    """P becomes the smaller of M and what the others leave; held stays. The
+    answer is the rule list."""
     row = rows[port - 1]
     rows[port - 1] = row._replace(cable=cable, p=min(row.m, left_for(capacity, rows, port)))
     return rule_list(rows[port - 1])
 
 
 def request_power(row, obj, request):
-    """Voltage (the fixed object's, else the requested) times operating current
-    rounded up to a half watt, for PPS cut to P."""
+    """The voltage is that of the fixed object, or for PPS and AVS the one asked
+    for. What it makes with the operating current is rounded up to a half watt;
+    of PPS it is at most P."""
     if isinstance(obj, Fixed):
         microwatts = (obj.volts * 50) * (operating_figure(request) * 10)
     elif isinstance(obj, Pps):
@@ -99,8 +102,8 @@ def request_power(row, obj, request):
 
 @public_call(None)
 def set_up(capacity, rows):
-    """Set-up takes M and PPS wanted from the rows as lent, empties all ports.
-    Row by row 31, 4."""
+    """Keeps M and PPS wanted of each row as lent, and empties every port. For
+    each row in turn 31, 4."""
     refuse_bad_table(capacity, rows)
     for place, row in enumerate(rows, 1):
         refuse_if(not 15 <= row.m <= 200, 31, place)
@@ -129,10 +132,9 @@ def advertise(capacity, rows, port):
 
 @public_call(None)
 def request(capacity, rows, port, word):
-    """37, 33, 35, the request's own, 36. A request is judged on the list of
-    its row's stored P. An accepted request sets held to the larger of 15 and
-    its power. 36 exactly when the new held would exceed capacity less the
-    other rows' held."""
+    """37, 33, 35, the list's own, 36. A request is judged on the rule list of
+    its row as it stands. Held becomes the power of the request, never less than
+    15. 36 exactly when its power is more than the others leave."""
     refuse_unsound(capacity, rows)
     refuse_bad_port(rows, port)
     refuse_empty(rows, port)
@@ -145,7 +147,7 @@ def request(capacity, rows, port, word):
 
 @public_call(None)
 def detach(capacity, rows, port):
-    """Detach empties. 37, 33, 35."""
+    """Empties the attached port. 37, 33, 35."""
     refuse_unsound(capacity, rows)
     refuse_bad_port(rows, port)
     refuse_empty(rows, port)
@@ -154,6 +156,6 @@ def detach(capacity, rows, port):
 
 @public_call(0)
 def remaining(capacity, rows):
-    """Remaining power is capacity less all held."""
+    """The capacity less what all rows hold."""
     refuse_unsound(capacity, rows)
     return capacity - all_held(rows)

@@ -20,8 +20,8 @@ def refuse_if(wrong, number, place=0):
 
 
 def public_call(zero):
-    """A refusal returns its number, the place, and zero for all else, an
-    empty list included. Success is 0, place 0."""
+    """Success is 0 at place 0. On a refusal everything else in the answer is
+    zero, a list is empty."""
 
     def public(judge):
         @wraps(judge)

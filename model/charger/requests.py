@@ -4,20 +4,18 @@ from charger.object_words import Avs, Battery, Pps, bits
 from charger.refusals import public_call, refuse_if
 from charger.shapes import shaped
 
-# "For fixed, variable and battery: 19..10 operating figure, 9..0 maximum
-# figure; bits 27, 21, 20 reserved. PPS and AVS: 20..9 voltage, 6..0 current;
-# bits 27, 21, 8, 7 reserved. Bits 25..22 are not examined."
+# The reserved rows of the request word, by the kind of the object.
 RESERVED_WITH_FIGURES = (27, 21, 20)
 RESERVED_WITH_VOLTAGE = (27, 21, 8, 7)
 
 
 def request_position(request):
-    """Bits 31..28 are the object position."""
+    """The row "position"."""
     return bits(request, 31, 28)
 
 
 def is_mismatch(request):
-    """26 is capability mismatch."""
+    """The row "capability mismatch"."""
     return bits(request, 26, 26) == 1
 
 
@@ -30,30 +28,30 @@ def maximum_figure(request):
 
 
 def requested_voltage(request):
-    """20 mV for PPS, 25 mV for AVS."""
+    """Bits 20..9, of AVS in 25 mV, of PPS in 20 mV."""
     return bits(request, 20, 9)
 
 
 def requested_current(request):
-    """50 mA, for PPS and AVS."""
+    """Of PPS and AVS, in 50 mA."""
     return bits(request, 6, 0)
 
 
 def refuse_reserved(request, reserved):
-    """A reserved bit that is set is refused."""
+    """21: a reserved bit of the request is set."""
     refuse_if(any(bits(request, bit, bit) for bit in reserved), 21)
 
 
 def judge_figures(advertised, request):
-    """The operating figure is at most the advertised one; the maximum figure
-    likewise unless bit 26 is set. Both in the object's own step."""
+    """The operating figure is at most what is advertised; the maximum figure is
+    at most what is advertised too, or bit 26 is set."""
     refuse_reserved(request, RESERVED_WITH_FIGURES)
     refuse_if(operating_figure(request) > advertised, 24)
     refuse_if(maximum_figure(request) > advertised and not is_mismatch(request), 25)
 
 
 def judge_pps(obj, request):
-    """PPS voltage lies from min to max."""
+    """The voltage lies in the range of a PPS object, ends included."""
     refuse_reserved(request, RESERVED_WITH_VOLTAGE)
     millivolts = requested_voltage(request) * 20
     refuse_if(not obj.min * 100 <= millivolts <= obj.max * 100, 22)
@@ -61,8 +59,8 @@ def judge_pps(obj, request):
 
 
 def avs_limit(obj, millivolts):
-    """Below 15.0 V the first current limits, above it the second; at 15.0 V
-    the larger of the two."""
+    """What is advertised depends on the voltage: the first current, the second,
+    and exactly at 15.0 V the larger."""
     if millivolts < 15_000:
         return obj.low
     if millivolts > 15_000:
@@ -71,8 +69,8 @@ def avs_limit(obj, millivolts):
 
 
 def judge_avs(obj, request):
-    """25 mV for AVS with its low two bits zero (a whole 100 mV). AVS voltage
-    from 9.0 V to 15.0 or 20.0 V: a zero in 9..0 means the range ends at 15 V."""
+    """The voltage is a whole number of 100 mV. It lies from 9 V to 15 V where
+    the second current is zero and else from 9 V to 20 V."""
     refuse_reserved(request, RESERVED_WITH_VOLTAGE)
     refuse_if(bits(requested_voltage(request), 1, 0) != 0, 23)
     millivolts = requested_voltage(request) * 25
@@ -100,5 +98,5 @@ def granted(objects, request):
 
 @public_call(None)
 def answer(words, request):
-    """Requests check the shape of the list first."""
+    """As shape; then 20, 21, 23, 22, 24, 25."""
     granted(shaped(words), request)

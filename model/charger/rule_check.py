@@ -11,9 +11,10 @@ from charger.shapes import shaped
 
 
 def is_wrong_set(profile, objects):
-    """18: it has exactly these fixed voltages and AVS, no battery or variable
-    object, and no PPS or exactly that PPS set with those ranges; no PPS where
-    P < M; a second AVS current that is zero exactly when M <= 90."""
+    """18, unless there are exactly the fixed voltages and the AVS that M calls
+    for, its second current zero exactly when M is 90 or less; no battery and no
+    variable object; and either no PPS object, or, where P is equal to M,
+    exactly the programmable supplies of M with their minimum and maximum."""
     voltages = [obj.volts for obj in objects if isinstance(obj, Fixed)]
     avs = [obj for obj in objects if isinstance(obj, Avs)]
     ranges = [(obj.min, obj.max) for obj in objects if isinstance(obj, Pps)]
@@ -29,9 +30,7 @@ def is_wrong_set(profile, objects):
 
 
 def is_fixed_current_allowed(profile, volts, current):
-    """Allowed at 5, 9, 15 V: if P exceeds 6 times the volts, from 3 A to the
-    smaller of cable and the quotient rounded up; else the quotient rounded
-    either way. At 20 V: either rounding, cut to the cable."""
+    """The three rows for fixed objects of what is allowed."""
     down = fixed_quotient(profile, volts, rounded_down)
     up = fixed_quotient(profile, volts, rounded_up)
     cable = cable_in_10_ma(profile)
@@ -43,9 +42,8 @@ def is_fixed_current_allowed(profile, volts, current):
 
 
 def is_prog_current_allowed(profile, volts, current):
-    """PPS: the built figure, except that 9 V Prog with 54 < M < 90 and 15 V
-    Prog with 90 < M < 120 may go up to the smaller of cable and the
-    rounded-down quotient."""
+    """The figure that is built, and the two rows in addition: from the built
+    figure up to the smaller of the cable and the figure before its limit."""
     least = most = built_prog_current(profile, volts)
     if (volts == 9 and 54 < profile.m < 90) or (volts == 15 and 90 < profile.m < 120):
         most = min(cable_in_50_ma(profile), prog_quotient_down(profile.m, volts))
@@ -65,8 +63,7 @@ def is_current_allowed(profile, obj):
 
 @public_call(None)
 def check(profile, words):
-    """The rule check: profile 1 to 5, the shape, 18 over the whole list, then
-    19 at the first such word."""
+    """1, 2, 3, 4, 5; then as shape; then 18; then 19 at the first such word."""
     refuse_bad_profile(profile)
     objects = shaped(words)
     refuse_if(is_wrong_set(profile, objects), 18)

@@ -7,8 +7,7 @@ from charger.object_words import (
 )
 from charger.refusals import public_call, refuse_if
 
-# "The first object is fixed 5 V. Then the other fixed, then battery, then
-# variable, at most one SPR AVS, PPS."
+# "first the fixed, then battery, then variable, then AVS, then PPS"
 ORDER_OF_KINDS = (Fixed, Battery, Variable, Avs, Pps)
 
 
@@ -17,8 +16,9 @@ def is_fixed_at(obj, volts):
 
 
 def is_past_voltage_bound(obj):
-    """Fixed voltage is at most 20 V; battery, variable and PPS max is at most
-    21 V and min at most max."""
+    """15: that of a fixed object is at most 20 V; the maximum of a battery, a
+    variable and a PPS object is at most 21 V, and its minimum is not above its
+    maximum."""
     if isinstance(obj, Fixed):
         return obj.volts * 50 > 20_000
     if isinstance(obj, (Battery, Variable)):
@@ -29,7 +29,7 @@ def is_past_voltage_bound(obj):
 
 
 def is_over_100_watts(obj):
-    """Fixed, variable (at max voltage) and battery power is at most 100 W."""
+    """16: no fixed, battery or variable object offers more than 100 W."""
     if isinstance(obj, Fixed):
         microwatts = (obj.volts * 50) * (obj.current * 10)
     elif isinstance(obj, Variable):
@@ -42,9 +42,10 @@ def is_over_100_watts(obj):
 
 
 def is_out_of_order(before, obj):
-    """14: order, or a second AVS; a word is compared with the one before it.
-    Fixed voltage strictly rising, battery and variable each with min voltage
-    not falling, at most one SPR AVS, PPS max voltage not falling."""
+    """14: each word is compared with the one right before it. The voltage of
+    each fixed object is above that of the one before it; the minimum voltage of
+    battery objects does not fall, nor that of variable objects, nor the maximum
+    voltage of PPS objects; and there is no second AVS."""
     if type(before) is not type(obj):
         return ORDER_OF_KINDS.index(type(before)) > ORDER_OF_KINDS.index(type(obj))
     if isinstance(obj, Fixed):
@@ -57,8 +58,9 @@ def is_out_of_order(before, obj):
 
 
 def differs_from_its_fixed_objects(avs, objects):
-    """AVS needs a 15 V fixed object with the same current as 19..10, and, if
-    9..0 isn't zero, a 20 V fixed object with the same current as 9..0."""
+    """17, unless there is a fixed object of 15 V with a current equal to the
+    first AVS current, and, unless the second AVS current is zero, a fixed
+    object of 20 V with a current equal to the second."""
 
     def offered(volts, current):
         return any(is_fixed_at(obj, volts) and obj.current == current for obj in objects)
@@ -67,8 +69,8 @@ def differs_from_its_fixed_objects(avs, objects):
 
 
 def shaped(words):
-    """The objects of a list whose shape passes. Order: 10, 11, then word by
-    word 12, 13, 15, 16, 14, then 17."""
+    """The objects of a list whose shape passes. Order: 10; 11; then for each
+    word in turn 12, 13, 15, 16, 14; then 17."""
     refuse_bad_count(words)
     objects = []
     for place, word in enumerate(held_in(words), 1):
@@ -95,15 +97,15 @@ def shape(words):
 
 @public_call(NO_OBJECTS)
 def read(words):
-    """Reading a list refuses as its shape check does."""
+    """It refuses exactly what the shape check refuses."""
     return list_of_objects(shaped(words))
 
 
 @public_call(NO_WORDS)
 def write(objects):
-    """Writing checks the count, then each object for a field too wide, then
-    the shape of the words made. Order: 10, 7, 11, then word by word 12, 13, 15,
-    16, 14, then 17."""
+    """It looks at the count first (10), then for the first object with a field
+    that is wider than its bits (7), and then at the shape of the words that the
+    objects make."""
     refuse_bad_count(objects)
     for place, obj in enumerate(held_in(objects), 1):
         refuse_if(has_field_too_wide(obj), 7, place)

@@ -73,7 +73,7 @@ def some_lent_rows(how_many):
 
 
 def case_of_the_document():
-    """The last two cases of "Checked by hand"."""
+    """The shared ports of "Worked by hand"."""
     say_rows([Row(130, 0, 0, 0, 0)] * 2)
     twenty_volts_at_325 = "%08X" % request_of_figures(4, 325, 325, 0)
     nine_volts_at_200 = "%08X" % request_of_figures(2, 200, 200, 0)
@@ -220,7 +220,7 @@ def row_counts():
 
 
 def set_ups():
-    """31 and 4, row by row; 32; what else the lent rows hold is not examined."""
+    """31 and 4, row by row; 32; nothing else in the lent rows is looked at."""
     for m in (0, 1, 14, 15, 16, 199, 200, 201, 255, 256, 65535):
         for pps in (0, 1, 2, 255):
             rows = [Row(100, 1, 9, 999, 999), Row(15, 0, 0, 0, 0), Row(200, 1, 3, 1, 1)]

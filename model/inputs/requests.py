@@ -65,7 +65,7 @@ def say_answer(words, request, count=None):
 
 
 def answer_avs_edges():
-    """The AVS region of figures 10-3 to 10-5, by its corners."""
+    """The AVS region, volts against amperes, by its corners."""
     for figures in ((160, 130, 5, 0, 0), (160, 80, 5, 1, 0), (80, 80, 3, 0, 0), (200, 200, 5, 0, 1), (91, 91, 3, 0, 0)):
         words = built(Profile(*figures, 0))
         objects = [charger.decode(word) for word in words]

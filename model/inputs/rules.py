@@ -78,7 +78,7 @@ def say_check(profile, objects):
 
 
 def with_what_does_not_matter(profile):
-    """PPS wanted, rounding and flags don't matter to the rule check."""
+    """W, R and F that are in range matter no further to the rule check."""
     return profile._replace(rounding=rng.randint(0, 1), pps=rng.randint(0, 1), flags=rng.randrange(64))
 
 
@@ -112,8 +112,8 @@ def check_currents():
 
 
 def check_prog_currents():
-    """Every PPS current of a built list at the ends of what is allowed; 9 V
-    Prog with 54 < M < 90 and 15 V Prog with 90 < M < 120 have a range."""
+    """Every PPS current of a built list at the ends of what is allowed. The two
+    supplies with a row in addition have a range."""
     for m in (31, 53, 54, 55, 56, 67, 68, 72, 89, 90, 91, 92, 93, 100, 119, 120, 200):
         cables = (3, 5) if m in (55, 72, 92, 119) else (rng.choice((3, 5)),)
         for cable in cables:

@@ -1,10 +1,10 @@
-"""How inputs are said on a line, and the figures at the bounds of 01."""
+"""How inputs are said on a line, and the figures at the bounds of the statement."""
 
 import console
 import charger
 from inputs.seed import rng
 
-# M at, below and above each bound of 01
+# M at, below and above each bound of the statement
 EDGES_OF_M = (1, 2, 14, 15, 16, 29, 30, 31, 32, 53, 54, 55, 56, 60, 72, 80, 89, 90, 91, 92, 100)
 EDGES_OF_M += (110, 118, 119, 120, 121, 130, 160, 180, 199, 200)
 MARKED_PROFILES = ((72, 72, 3, 0, 1, 0), (160, 80, 5, 1, 0, 0), (80, 80, 3, 0, 0, 0), (160, 130, 5, 0, 0, 0))

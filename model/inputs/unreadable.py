@@ -67,7 +67,7 @@ STRANGE_LINES = (
     "default seventy", "default \xb2", "default 72;", "rows -1", "request 200 1 1", "write 1 f 0 0 100 300",
     "write 1 X 0 0 100 300", "write 1 F0 0 100 300", "shape 1 1912C" + " 00000000" * 6,
     "shape 1 0x01912C" + " 00000000" * 6, "shape 1 00001912C" + " 00000000" * 6,
-    # a number too large for its parameter
+    # a number that its parameter cannot hold
     "default 65536", "build 65536 72 3 0 1 0", "build 72 65536 3 0 1 0", "build 72 72 256 0 1 0",
     "build 72 72 3 256 1 0", "build 72 72 3 0 256 0", "build 72 72 3 0 1 256", "shape 256" + " 00000000" * 7,
     "write 256", "setup 65536", "attach 200 256 3", "attach 200 1 256", "rows 65536 0 0 0 15",

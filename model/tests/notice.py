@@ -40,7 +40,8 @@ def fixed_at_3_a(*voltages):
 
 
 def test_notice_examples():
-    """10.2.3.2.2. Where the notice's example differs from 01, 01 decides."""
+    """Its example lists, 10.2.3.2.2. Where one differs from the statement, the
+    statement decides."""
     example_27 = fixed_at_3_a(5, 9) + [Pps(1, 110, 50, 60)]
     example_36 = fixed_at_3_a(5, 9) + [Fixed(0, 0, 300, 240), Avs(0, 240, 0), Pps(1, 110, 50, 60), Pps(1, 160, 50, 48)]
     example_50 = fixed_at_3_a(5, 9, 15) + [Fixed(0, 0, 400, 250), Avs(0, 300, 250)]
@@ -61,7 +62,7 @@ def test_notice_examples():
             expect("36 W, 9 V Prog", number in (0, 19))
             allowed += [current] if number == 0 else []
         expect("36 W, 9 V Prog up to 4 A with a 5 A cable", allowed, list(currents))
-    # the notice's own 80 W example has a 15 V Prog, its table 10-7 and 01 have none
+    # the notice's own 80 W example has a 15 V Prog, its table 10-7 and the statement have none
     profile = Profile(160, 160, 5, 0, 1, 0)
     expect("80 W as printed", verdict(charger.check(profile, list_of(example_80))), (18, 0))
     without = [obj for obj in example_80 if obj != Pps(1, 160, 50, 60)]

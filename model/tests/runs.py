@@ -9,7 +9,7 @@ from tests.handling import figures, verdict, volts
 
 
 class Ledger:
-    """The figure of each port, from the calls and their answers alone."""
+    """What each port holds, told from the calls and the answers alone."""
 
     def __init__(self, maxima):
         self.maxima = maxima
@@ -21,7 +21,7 @@ class Ledger:
         return sum(self.figure) - self.figure[at]
 
     def power_of(self, at, word):
-        """Reckoned from the list that port was last given."""
+        """By the latest list of the port."""
         obj = self.given[at].places[(word >> 28) - 1]
         if obj >> 30 == 0:
             milliwatts, step = (obj >> 10 & 1023) * (word >> 10 & 1023), 2       # 50 mV * 10 mA = mW / 2

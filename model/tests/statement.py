@@ -1,4 +1,4 @@
-"""The cases of 01: those checked by hand, and what the contracts settle."""
+"""The cases of the statement: those worked by hand, and what the contracts settle."""
 
 import charger
 from charger import Avs, Battery, Fixed, NoKind, Pps, Profile, Row, Words
@@ -7,7 +7,7 @@ from tests.handling import (
     avs_built, figures, fixed_currents, list_of, objects_built, of_default, verdict, volts, words_built,
 )
 
-# ------------------------------------------------- 01, "Checked by hand"
+# ------------------------------------------------- "Worked by hand"
 
 L = Profile(160, 130, 5, 0, 0, 0)
 
@@ -69,7 +69,7 @@ def test_shared_case():
     expect("remaining", charger.remaining(200, rows), (0, 0, 16))
 
 
-# ---------------------------------------------- 01, "What the contracts settle"
+# ---------------------------------------------- "What the contracts settle"
 
 
 def test_orders():
@@ -115,8 +115,8 @@ def test_orders():
 
 
 def test_objects_of_no_kind():
-    """10, 7, 11, then word by word 12, 13, 15, 16, 14, then 17, where C gives
-    an object of no kind; the console's lines cannot."""
+    """The order of writing where C gives an object of no kind; the console's
+    lines cannot."""
     five, nine, below_5, above_20 = [Fixed(0, 0, volts, 300) for volts in (100, 180, 66, 401)]
     none, flags_200, flags_1 = NoKind(), Fixed(200, 0, 180, 300), Fixed(1, 0, 180, 300)
     over_100_w, lonely_avs = Fixed(0, 0, 400, 501), Avs(0, 300, 0)
