@@ -1,4 +1,4 @@
-//! The refusal numbers of 01 by name, and how a refusal becomes an answer.
+//! The refusal numbers of the statement by name, and how a refusal becomes an answer.
 
 use crate::{Listing, Verdict, Words};
 
@@ -38,12 +38,12 @@ pub fn refuse<T>(number: u8, place: u8) -> Result<T, Verdict> {
     Err(Verdict { number, place })
 }
 
-/// "Success is 0, place 0."
+/// "Success is 0 at place 0."
 pub fn verdict(result: Result<(), Verdict>) -> Verdict {
     result.err().unwrap_or_default()
 }
 
-/// "A refusal returns its number, the place, and zero for all else, an empty list included."
+/// "On a refusal everything else in the answer is zero, a list is empty".
 pub fn listing(result: Result<Words, Verdict>) -> Listing {
     match result {
         Ok(list) => Listing { verdict: Verdict::default(), list },

@@ -1,4 +1,4 @@
-//! The statement of what to build (01) once more, in plain Rust, by hand.
+//! The statement (docs/STATEMENT.md) once more, in plain Rust, by hand.
 //! Every call answers for every input; none panics, allocates or keeps state.
 
 #![no_std]

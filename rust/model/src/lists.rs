@@ -36,8 +36,8 @@ pub fn write(list: &Objects) -> Listing {
     listing(try_write(list, 0))
 }
 
-/// "Writing checks the count, then each object for a field too wide, then the shape of the
-/// words made." The first object of no kind is at the place `no_kind`, or nowhere if that is 0.
+/// "10; 7 at the first such object; then as shape from 11 on". The first object of no kind is at
+/// the place `no_kind`, or nowhere if that is 0.
 pub fn try_write(list: &Objects, no_kind: u8) -> Result<Words, Verdict> {
     check_count(list.count)?;
     let objects = &list.places[..usize::from(list.count)];
@@ -89,7 +89,7 @@ pub fn scan(list: &Words, mut keep: impl FnMut(usize, Object)) -> Result<(), Ver
     scan.end()
 }
 
-/// An object of no kind: 11, "first object not fixed 5 V", comes before 12, "kind not allowed".
+/// An object of no kind "gets 11 where it is the first object and 12 in its turn elsewhere".
 fn refuse_kind<T>(place: u8) -> Result<T, Verdict> {
     refuse(if place == 1 { FIRST_OBJECT } else { KIND }, place)
 }
@@ -128,7 +128,7 @@ impl Scan {
             Object::Variable { max, min, current } => {
                 (max <= MOST_50MV && min <= max, within_100_watts(max, current), 2, min, min)
             }
-            // "At most one": no second has the key 1.
+            // "there is no second AVS": none has the key 1.
             Object::Avs { .. } => (true, true, 3, 0, 1),
             Object::Pps { max, min, .. } => (max <= MOST_100MV && min <= max, true, 4, max, max),
         };

@@ -87,15 +87,15 @@ pub fn remaining(rows: &[Row], capacity: u16) -> RemainingPower {
     }
 }
 
-/// "Empty means cable 0, P 0, held 15."
+/// The column "empty port" of the rows.
 fn empty(row: &mut Row) {
     row.cable = 0;
     row.present = 0;
     row.held = LEAST;
 }
 
-/// "The one built for its M, P and cable, rounded down, F = 0, with PPS exactly where wanted and
-/// P = M." A sound row makes a good profile.
+/// "rounded down, without flags, and with PPS exactly where PPS is wanted and P is equal to M". A
+/// sound row makes a good profile.
 fn rule_list(row: &Row) -> Words {
     make(&Profile {
         max: row.max,
@@ -145,7 +145,7 @@ fn sound(row: &Row) -> bool {
     }
 }
 
-/// Numbers 30, 32, 37 and 33; the port's row and the capacity less the other rows' held.
+/// Numbers 30, 32, 37 and 33; the port's row and what the others leave for it.
 fn find(rows: &mut [Row], capacity: u16, port: u8) -> Result<(&mut Row, u16), Verdict> {
     let held = all_held(rows, capacity)?;
     if port == 0 || usize::from(port) > rows.len() {

@@ -56,7 +56,7 @@ pub fn take_apart(object: &Object, word: u32) -> Asked {
     }
 }
 
-/// "Requests check the shape of the list first, then 20, 21, 23, 22, 24, 25."
+/// "as shape; then 20, 21, 23, 22, 24, 25"
 pub fn answer(list: &Words, word: u32) -> Verdict {
     let verdict = shape(list);
     if verdict.number != 0 {
@@ -126,12 +126,12 @@ fn check_avs(low: u16, high: u16, word: u32) -> Result<(), Verdict> {
     if volts & 0b11 != 0 {
         return refuse(NOT_WHOLE, 0);
     }
-    // "A zero in 9..0 means the range ends at 15 V."
+    // "An AVS object whose second current is zero ends at 15 V."
     let end = if high == 0 { AVS_15V } else { AVS_20V };
     if !(AVS_9V..=end).contains(&volts) {
         return refuse(OUT_OF_RANGE, 0);
     }
-    // "Below 15.0 V the first current limits, above it the second; at 15.0 V the larger."
+    // "Both ranges hold 15.0 V, so a port that offers the larger current there grants it."
     let limit = if volts < AVS_15V {
         low
     } else if volts > AVS_15V {

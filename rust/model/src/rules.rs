@@ -5,10 +5,11 @@ use crate::lists::{object_at, shape};
 use crate::steps::{round_down, round_up};
 use crate::{Listing, Object, Profile, Profiled, Verdict, Words};
 
-/// "A fixed table of four rows: voltage and the M it must exceed."
+/// "The fixed objects come from four rows": voltage, "there when M is above".
 const FIXED: [(u32, u16); 4] = [(5, 0), (9, 30), (15, 54), (20, 90)];
 
-/// "AVS is present exactly when M > 54; its second current is 0 when M <= 90."
+/// "There is one AVS object when M is above 54", and its second current "is zero when M is 90 or
+/// less".
 const AVS_ABOVE: u16 = 54;
 const AVS_SECOND_ABOVE: u16 = 90;
 
@@ -136,7 +137,7 @@ impl Prog {
         self.above < max && max < self.below
     }
 
-    /// "10 M / 9, 2 M / 3, M / 2", in 50 mA, rounded down.
+    /// "current before its limit, in 50 mA", rounded down.
     fn quotient(&self, max: u16) -> u32 {
         round_down(10 * u32::from(max), self.volts)
     }
@@ -146,7 +147,7 @@ impl Prog {
     }
 
     /// From the built figure to the smaller of cable and quotient. The two differ only where the
-    /// quotient is over 3 A: 9 V Prog with M > 54 and 15 V Prog with M > 90, as 01 has it.
+    /// quotient is over 3 A: 9 V Prog with M > 54 and 15 V Prog with M > 90.
     fn allows(&self, profile: &Profile, current: u32) -> bool {
         let upper = self.quotient(profile.max).min(cable_current(A3_50MA, profile.cable));
         (self.built(profile)..=upper).contains(&current)

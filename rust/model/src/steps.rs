@@ -1,4 +1,4 @@
-//! "Converting one loses nothing or refuses."
+//! "The conversion gives the exact figure, or refuses".
 
 pub fn convert(figure: u16, from: u16, to: u16) -> Option<u16> {
     let measure = u32::from(figure) * u32::from(from);

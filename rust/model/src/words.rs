@@ -1,4 +1,4 @@
-//! One object word: "Within a kind each field is taken by its bit places."
+//! One object word: "The fields of each kind", by their bits.
 
 use crate::Object;
 
@@ -14,7 +14,7 @@ fn put(figure: impl Into<u32>, low: u32, width: u32) -> Option<u32> {
     Some(figure << low)
 }
 
-/// "The kind is read from bits 31..30, and for 11b from bits 29..28."
+/// "The kind of a word is in bits 31..30; where these are 11b, bits 29..28 tell which."
 #[inline]
 pub fn decode(word: u32) -> Option<Object> {
     let object = match word >> 28 {
@@ -80,7 +80,7 @@ pub fn encode(object: &Object) -> Option<u32> {
 pub fn reserved_bit_set(object: &Object, first: bool, word: u32) -> bool {
     let reserved = match object {
         Object::Fixed { .. } if first => 1 << 22,
-        // "After the first word bits 29..22 are all reserved."
+        // "fixed, any later word": 29..22
         Object::Fixed { .. } => 0xFF << 22,
         Object::Battery { .. } | Object::Variable { .. } => 0,
         Object::Pps { .. } => 0b11 << 25 | 1 << 16 | 1 << 7,

@@ -22,7 +22,7 @@ fn verdict(judged: Judged) -> Verdict {
     judged.err().unwrap_or_default()
 }
 
-/// 30: "row count not 1..8"; 32: "capacity outside 15 times rows .. 1600".
+/// 30: "number of rows outside 1 to 8"; 32: "capacity outside 15 times the number of rows to 1600".
 pub fn begin(count: usize, capacity: u16) -> Standing {
     let table = || {
         refuse_if(!(1..=8).contains(&count), 30, 0)?;
@@ -76,24 +76,24 @@ fn end(standing: Standing, capacity: u16) -> Judged {
     refuse_if(standing.held > u32::from(capacity), 37, 0)
 }
 
-/// .. then 33: "port not 1..rows".
+/// .. then 33: "port outside 1 to the number of rows".
 fn port_end(standing: Standing, capacity: u16, port: u8) -> Judged {
     end(standing, capacity)?;
     refuse_if(!(1..=standing.count).contains(&usize::from(port)), 33, 0)
 }
 
-/// .. then 35: "port not attached", with the row's place.
+/// .. then 35: "the port is not attached", with the row's place.
 fn use_end(standing: Standing, row: Row, capacity: u16, port: u8) -> Judged {
     port_end(standing, capacity, port)?;
     refuse_if(row.cable == 0, 35, port)
 }
 
-/// "Capacity less the other rows' held": the row's own is in the sum.
+/// "the capacity less what all other rows hold": the row's own is in the sum.
 pub fn left(standing: Standing, row: Row, capacity: u16) -> u32 {
     u32::from(capacity) - standing.held + u32::from(row.held)
 }
 
-/// "Attach and advertise set P to the smaller of M and capacity less the other rows' held"
+/// P becomes "the smaller of M and what the others leave".
 fn offered(row: Row, left: u32, cable: u8) -> Row {
     Row {
         cable,
@@ -102,7 +102,7 @@ fn offered(row: Row, left: u32, cable: u8) -> Row {
     }
 }
 
-/// "A refusal returns its number, the place, and zero for all else .. rows are not written": past the last row there is none.
+/// "on a refusal none is" written: past the last row there is none.
 fn change(standing: Standing, port: u8, decided: Result<Row, Verdict>) -> Change {
     let (answer, at, row) = match decided {
         Ok(row) => (Verdict::default(), usize::from(port) - 1, row),
@@ -115,7 +115,7 @@ fn change(standing: Standing, port: u8, decided: Result<Row, Verdict>) -> Change
     }
 }
 
-/// 3: "cable not 3 or 5"; 34: "attach to a port in use", with the row's place.
+/// 3: "cable neither 3 nor 5"; 34: "attach to a port that is attached", with the row's place.
 pub fn attach(standing: Standing, row: Row, capacity: u16, port: u8, cable: u8) -> Change {
     let decided = || {
         port_end(standing, capacity, port)?;
@@ -146,8 +146,7 @@ pub fn offer(change: Change) -> Listing {
     }
 }
 
-/// "An accepted request sets held to the larger of 15 and its power"; 36: "exactly when the new held would exceed capacity less the other
-/// rows' held", with the row's place. The request's own refusals are those of the row's list, be it empty.
+/// "held becomes the power of the request"; 36 "exactly when its power is more than the others leave", with the row's place. The request's own refusals are those of the row's list, be it empty.
 pub fn request(standing: Standing, row: Row, capacity: u16, port: u8, word: u32) -> Change {
     let decided = || {
         use_end(standing, row, capacity, port)?;
@@ -161,7 +160,7 @@ pub fn request(standing: Standing, row: Row, capacity: u16, port: u8, word: u32)
     change(standing, port, decided())
 }
 
-/// "Detach empties": "cable 0, P 0, held 15".
+/// "empties the attached port"
 pub fn detach(standing: Standing, row: Row, capacity: u16, port: u8) -> Change {
     let empty = Row {
         cable: 0,
@@ -173,7 +172,7 @@ pub fn detach(standing: Standing, row: Row, capacity: u16, port: u8) -> Change {
     change(standing, port, decided)
 }
 
-/// "Remaining power is capacity less all held."
+/// "the capacity less what all rows hold"
 pub fn remaining(standing: Standing, capacity: u16) -> RemainingPower {
     let judged = end(standing, capacity);
     let power = match judged {
@@ -186,7 +185,7 @@ pub fn remaining(standing: Standing, capacity: u16) -> RemainingPower {
     }
 }
 
-/// "Built for its M, P and cable, rounded down, F = 0, with PPS exactly where wanted and P = M".
+/// "rounded down, without flags, and with PPS exactly where PPS is wanted and P is equal to M"
 fn rule_profile(row: Row) -> Profile {
     Profile {
         max: row.max,
@@ -203,7 +202,7 @@ pub fn rule_list(row: Row) -> Words {
     model::build(&rule_profile(row)).list
 }
 
-/// The power of a request in half watts, "for PPS cut to P".
+/// The power of a request in half watts, "for PPS at most P".
 fn power(list: &Words, word: u32, present: u16) -> u32 {
     match asked(list, word) {
         (Object::Pps { .. }, power) => power.min(u32::from(present)),

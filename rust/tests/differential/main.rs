@@ -21,9 +21,9 @@ mod steps;
 mod table;
 mod words;
 
-/// Each part holds its own numbers to have come up; together they are all those of 01 that a call can give. 9 is a program's.
+/// Each part holds its own numbers to have come up; together they are all those of the statement that a call can give. 9 is a program's.
 #[test]
-fn every_number_of_01_belongs_to_a_part() {
+fn every_number_of_the_statement_belongs_to_a_part() {
     let mut all: Vec<u8> = [
         lists::NUMBERS,
         rules::NUMBERS,
@@ -33,6 +33,6 @@ fn every_number_of_01_belongs_to_a_part() {
     .concat();
     all.sort();
     all.dedup();
-    let of_01: Vec<u8> = (0..=7).chain(10..=25).chain(30..=37).collect();
-    assert_eq!(all, of_01);
+    let stated: Vec<u8> = (0..=7).chain(10..=25).chain(30..=37).collect();
+    assert_eq!(all, stated);
 }

@@ -5,7 +5,7 @@ use arinduleu::flat::*;
 use arinduleu::verdicts::*;
 
 #[test]
-fn names_have_the_numbers_of_01() {
+fn names_have_the_numbers_of_the_statement() {
     assert_eq!(
         [
             SUCCESS,
@@ -62,7 +62,7 @@ fn names_have_the_numbers_of_01() {
 }
 
 #[test]
-fn flat_kinds_have_the_order_of_01() {
+fn flat_kinds_have_the_order_of_the_statement() {
     assert_eq!(
         [KIND_FIXED, KIND_BATTERY, KIND_VARIABLE, KIND_PPS, KIND_AVS],
         [0, 1, 2, 3, 4]

@@ -1,4 +1,4 @@
-//! Profiles at and around everything that 01 compares a power with.
+//! Profiles at and around everything that the statement compares a power with.
 
 use crate::common::random::Random;
 use model::Profile;

@@ -142,7 +142,7 @@ const ROUNDINGS: [(&str, u32, u32, u32, u32); 6] = [
     ("0 / 3 is 0 both ways",                0,             3,  0,             0),
     // The largest numerator, where numerator plus divisor would not fit.
     ("4294967295 / 2 rounds to both sides", 4_294_967_295, 2,  2_147_483_647, 2_147_483_648),
-    // 01 is silent here; the library promises 0.
+    // No quotient is there to round; the library promises 0.
     ("a divisor of 0 gives 0 both ways",    4000,          0,  0,             0),
 ];
 

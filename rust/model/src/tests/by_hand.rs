@@ -1,4 +1,5 @@
-//! The cases of 01 "Checked by hand", table 10-4 of the notice, and what is read, written and held.
+//! The cases of the statement, "Worked by hand", with table 10-4 of the change notice, and what is
+//! read, written and held.
 
 use super::*;
 
@@ -29,7 +30,8 @@ fn built_by_hand() {
     assert_eq!(built(flagged).words[0], 0x3F01_912C);
 }
 
-/// Table 10-4: maximum, cable and present power in half watts, rounding, currents (0: not there).
+/// The notice's table 10-4: maximum, cable and present power in half watts, rounding, currents
+/// (0: not there).
 #[test]
 fn table_10_4() {
     let rows = [

@@ -58,7 +58,7 @@ fn ask_volts(position: u32, volts: u32, current: u32) -> u32 {
     position << 28 | volts << 9 | current
 }
 
-/// L of 01.
+/// The list L of the statement.
 fn l() -> Words {
     built(profile(160, 130, 5, 0, 0))
 }

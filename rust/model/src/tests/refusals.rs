@@ -62,7 +62,7 @@ fn shape_refusals() {
     refused(16, 4, &[five, fifteen, avs(299, 0), fixed(20, 501)]);
 }
 
-/// "10, 7, 11, then word by word 12, 13, 15, 16, 14, then 17", of objects that may be of no kind.
+/// "10; 7 at the first such object; then as shape from 11 on", of objects that may be of no kind.
 #[test]
 fn flat_write_refusals() {
     let fixed = |volts, current| FlatObject { volts, current, ..FlatObject::default() };
