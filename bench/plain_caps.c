@@ -1,5 +1,5 @@
-/* The listing program of 01 in plain C: what tools/caps_bench.sh times caps against. It is written straight from the statement ("The
-   listing program", "Power rules") and shares nothing with the proved source. */
+/* The listing program in plain C: what tools/caps_bench.sh times caps against. It is written straight from the statement ("The listing
+   program", "Power rules") and shares nothing with the proved source. */
 
 /* The kit's compiler has no headers. */
 long read(int from, void *to, unsigned long size);
