@@ -11,6 +11,8 @@ statement, with <br> between one quotation and the next:
 
 No sentence and no table row below a heading of the statement is left out. Beyond the first column each name in backticks is in the code of crates/,
 each file is there, and the cases named behind a file of cases (`file`: one; another .. to a third) are words of that file.
+
+The comments of the definitions, crates/*/specs, quote the statement in double quotes: three words or more that stand there so, `..` between two pieces.
 """
 
 import re
@@ -252,6 +254,39 @@ def judge_cases(root, cell, place, texts, faults):
     return looked
 
 
+def words_of(text):
+    return " ".join(re.findall(r"[a-z0-9]+", text.lower()))
+
+
+def comments_of(path):
+    """Each comment as one line, with the number of its first line."""
+    found, before = [], 0
+    for number, line in enumerate(lines_of(path), 1):
+        comment = re.match(r"\s*-- ?(.*)", line)
+        if not comment:
+            continue
+        if found and before == number - 1:
+            found[-1][1] += " " + comment[1]
+        else:
+            found.append([number, comment[1]])
+        before = number
+    return found
+
+
+def judge_comments(root, faults):
+    """The count of the quotations in the comments of the definitions."""
+    statement, looked = f" {words_of((root / STATEMENT).read_text(encoding='utf-8'))} ", 0
+    for path in sorted((root / "crates").glob("*/specs/*.antt")):
+        for number, comment in comments_of(path):
+            for piece in (piece for quoted in re.findall(r'"([^"]+)"', comment) for piece in quoted.split("..")):
+                if len(words_of(piece).split()) < 3:
+                    continue
+                looked += 1
+                if f" {words_of(piece)} " not in statement:
+                    faults.append(f"{path.relative_to(root)}:{number}: {STATEMENT} does not say: {piece.strip()}")
+    return looked
+
+
 def main(words):
     if words and words[0] in ("-h", "--help"):
         print(__doc__.strip())
@@ -277,11 +312,12 @@ def main(words):
                 judge_names(root, cell, place, names, faults)
                 if line.startswith("|"):
                     looked += judge_cases(root, cell, place, texts, faults)
+    quoted = judge_comments(root, faults)
     for fault in faults:
         print(fault, file=sys.stderr)
     if faults:
         return 1
-    print(f"trace: {rows} rows have every sentence and table row of the statement, and {looked} cases are where they say")
+    print(f"trace: {rows} rows have every sentence and table row of the statement, {looked} cases are where they say, {quoted} quotations in definitions are its words")
     return 0
 
 

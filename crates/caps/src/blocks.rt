@@ -48,7 +48,7 @@ fn put_record(input: &[u8], from: usize, out: &mut [u8], at: usize) -> usize
     put_line(out, at, verdict.number, words, list.count)
 }
 
-// Behind the last whole record: "Where one to seven bytes are left at the end, they print `9 0`".
+// Behind the last whole record: "Where one to seven bytes are left at the end, they print the line `9 0`".
 fn put_end(kept: usize, out: &mut [u8], at: usize) -> usize
     requires { ⌜ at + 71 ≤ length (now out) ⌝ }
     ensures { λ r. ⌜ Appended (now (out .entry)) at (endLine kept) (now (out .exit)) r ⌝ }

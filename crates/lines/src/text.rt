@@ -115,7 +115,8 @@ fn put_whole_line(out: &mut [u8], at: usize, number: u8, words: [u32; 7], count:
     put_byte(out, end, b'\n')
 }
 
-// The line of a listing: "the refusal number, the count, and each word of the list as eight hex digits in capitals".
+// The line of a listing: "the number of the refusal, then the count of words, then every word as eight hex digits in
+// capitals".
 // Where the block has no room for the longest line, nothing is put.
 pub fn put_line(out: &mut [u8], at: usize, number: u8, words: [u32; 7], count: u8) -> usize
     ensures { λ r. ⌜ PutWhereRoom 71 (now (out .entry)) at (lineOf number words count) (now (out .exit)) r ⌝ }

@@ -40,7 +40,7 @@ attached-offerable y a = record {
 }
 
 module _ (y : Row) (o : Offerable y) where
-  -- "rounded down, without flags, and with PPS exactly where PPS is wanted and P is equal to M": no refusal of the builder applies
+  -- "rounding down, without flags, and with PPS wherever PPS is wanted and P is equal to M": no refusal of the builder applies
   pub rule-profile-passes : NoneApply (buildRefusals (ruleProfile y))
   unfolding ruleProfile rulePps
   rule-profile-passes = (

@@ -23,7 +23,7 @@ voltageFor (Variable x m a) w = voltsOf (requestOf (Variable x m a) w)
 voltageFor (Pps l x m a) w = voltsOf (requestOf (Pps l x m a) w)
 voltageFor (Avs p l h) w = voltsOf (requestOf (Avs p l h) w)
 
--- ".. rounded up to a half watt": mV times mA is µW, and a half watt is 500000 of these
+-- ".. taken up to the next half watt where it is between two": mV times mA is µW, and a half watt is 500000 of these
 abbrev pub halfWattsFor : Object → ℕ → ℕ
 halfWattsFor o w = upOf (voltageFor o w * operatingOf (requestOf o w)) 500000
 

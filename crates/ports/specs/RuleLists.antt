@@ -8,11 +8,11 @@ use Rattle.rules.specs.declared.Profile.{Profile}
 use Rattle.rules.specs.Building.{builtOf}
 use Rattle.ports.specs.declared.Row.{Row}
 
--- "with PPS exactly where PPS is wanted and P is equal to M"
+-- "with PPS wherever PPS is wanted and P is equal to M"
 unfoldable pub rulePps : Row → ℕ
 rulePps y = cond (eqb (y .pps) 1 && eqb (y .present .0) (y .max .0)) 1 0
 
--- "rounded down, without flags, and with PPS .."
+-- "rounding down, without flags, and with PPS .."
 unfoldable pub ruleProfile : Row → Profile
 ruleProfile y = record {
   max = y .max;

@@ -26,7 +26,7 @@ pub end-of-some : (kept : ℕ) → 0 < kept → endLine kept ≡ shortLine
 end-of-some zero h = absurd (omega arith)
 end-of-some (suc n) h = refl
 
--- "Where one to seven bytes are left at the end, they print `9 0`, whatever they are."
+-- "Where one to seven bytes are left at the end, they print the line `9 0`, whatever they are."
 pub short-record : (s : List ℕ) → 0 < length s → length s < 8 → printedOf s ≡ ascii "9 0\n"
 unfolding printedOf
 short-record s some few =

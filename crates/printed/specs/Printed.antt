@@ -8,7 +8,7 @@ use Rattle.lists.specs.Writing.{writeRefused}
 use Rattle.rules.specs.Building.{builtOf}
 use Rattle.printed.specs.Records.{profileAt, listingLine}
 
--- "For each record it builds the list and prints one line": that of the record whose first byte is at a place
+-- "It builds the list of each record and prints a line for it": that of the record whose first byte is at a place
 abbrev pub recordLine : List ℕ → ℕ → List ℕ
 recordLine s at = listingLine (builtOf (profileAt s at))
 

@@ -27,7 +27,7 @@ operatingIn w = bits w 19 10
 abbrev pub maximumIn : ℕ → ℕ
 maximumIn w = bits w 9 0
 
--- PPS and AVS: the rows "voltage, bits 20..9, 20 mV", or "25 mV", and "current, 50 mA"
+-- PPS and AVS: bits 20..9 are "voltage, 20 mV" or "voltage, 25 mV", bits 6..0 "current, 50 mA"
 abbrev pub ppsVolts : ℕ → Mv20
 ppsVolts w = record { 0 = bits w 20 9 }
 

@@ -1,5 +1,4 @@
--- The word at a place of a list that is built (STATEMENT, "Places": "asking for the word at a place of a built list without building the
--- rest").
+-- The word at a place of a list that is built (STATEMENT, "Parts": "the word at a place of a built list, made without the rest").
 -- Assumes nothing.
 use mathlib.Core.Bool.{cond}
 use Prim.Native.Nat.{ℕ, _-_}

@@ -71,8 +71,8 @@ isBatteryOrVariable (object.Avs p l h) = false
 abbrev pub rightBase : ℕ → Words → Bool
 rightBase m l = exactly isFixed (fixedSlots m rails) l && (exactly isAvs (avsSlots m) l && none isBatteryOrVariable l)
 
--- "either no PPS object, or, where P is equal to M, exactly the programmable supplies of M with their minimum and maximum"; "A PPS object
--- where P is below M is thus refused"
+-- "either no PPS object, or, where P is equal to M, exactly the programmable supplies of M, each once, with their minimum and
+-- maximum"; "A PPS object where P is below M is thus refused"
 abbrev pub rightPps : Profile → Words → Bool
 rightPps p l = none isPps l || (not (ltb (p .present .0) (p .max .0)) && exactly isPps (progSlots (p .max .0)) l)
 

@@ -94,8 +94,8 @@ fn empty(row: &mut Row) {
     row.held = LEAST;
 }
 
-/// "rounded down, without flags, and with PPS exactly where PPS is wanted and P is equal to M". A
-/// sound row makes a good profile.
+/// "rounding down, without flags, and with PPS wherever PPS is wanted and P is equal to M". A sound
+/// row makes a good profile.
 fn rule_list(row: &Row) -> Words {
     make(&Profile {
         max: row.max,

@@ -185,7 +185,7 @@ pub fn remaining(standing: Standing, capacity: u16) -> RemainingPower {
     }
 }
 
-/// "rounded down, without flags, and with PPS exactly where PPS is wanted and P is equal to M"
+/// "rounding down, without flags, and with PPS wherever PPS is wanted and P is equal to M"
 fn rule_profile(row: Row) -> Profile {
     Profile {
         max: row.max,
