@@ -26,21 +26,7 @@ use Rattle.requests.specs.Judging.{limitsOf}
 use Rattle.requests.proofs.Limits.{unreserved, over, allowed, no-maximum}
 use Rattle.requests.proofs.AvsLimits.{ends-at-15-V, ends-at-20-V, limit-below, limit-above, limit-at}
 use Rattle.requests.proofs.Answers.{position-good, judged}
-
--- A request to an AVS object: the shape of the list passes, the position names a word of the list, that word is an AVS object with
--- these two currents, and no reserved bit of the request is set.
-pub record AsksAvs (l : Words) (w : ℕ) (low high : Ma10) : Type 0 where
-  pub shape-passes : shapeOf l ≡ success
-  pub from-1 : 1 ≤ positionOf w
-  pub to-count : positionOf w ≤ l .count
-  pub peak : ℕ
-  pub names : namedBy l w ≡ Known (Avs peak low high)
-  pub none-reserved : reservedInRequest (Avs peak low high) w ≡ false
-
--- The request is accepted exactly when its current is at most so many mA. Above that it is refused with 24, place 0.
-pub record AllowsUpTo (l : Words) (w milliamperes : ℕ) : Type 0 where
-  pub accepted : answerOf l w ≡ success ↔ (ma50 (currentIn w) ≤ milliamperes)
-  pub refused : milliamperes < ma50 (currentIn w) → answerOf l w ≡ verdict 24 0
+use Rattle.requests.specs.At15V.{AsksAvs, AllowsUpTo}
 
 -- ---- how the limit decides
 

@@ -2,4 +2,5 @@ pub mod Taking
 pub mod Limits
 pub mod Judging
 pub mod Answering
+pub mod At15V
 pub mod Promises
