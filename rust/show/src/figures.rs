@@ -2,10 +2,9 @@
 
 /// From millivolts: tenths of a volt, and hundredths where they are needed.
 pub fn volts(mv: u32) -> String {
-    if mv % 100 == 0 {
-        format!("{}.{}", mv / 1000, mv % 1000 / 100)
-    } else {
-        format!("{}.{:02}", mv / 1000, mv % 1000 / 10)
+    match mv % 100 {
+        0 => format!("{}.{}", mv / 1000, mv % 1000 / 100),
+        _ => format!("{}.{:02}", mv / 1000, mv % 1000 / 10),
     }
 }
 
@@ -15,7 +14,11 @@ pub fn amperes(ma: u32) -> String {
 }
 
 pub fn half_watts(n: u16) -> String {
-    format!("{}{} W", n / 2, if n % 2 == 0 { "" } else { ".5" })
+    let half = match n % 2 {
+        0 => "",
+        _ => ".5",
+    };
+    format!("{}{half} W", n / 2)
 }
 
 /// From microwatts, with as many decimals as it takes. A step of 50 mV times a step of 10 mA is 500 of them.

@@ -37,6 +37,16 @@ fn of_65_w_on_a_5_a_cable() {
 }
 
 #[test]
+fn readme_shows_what_is_printed() {
+    let readme = include_str!("../../../README.md");
+    let stored = include_str!("../stored/65_w_5_a_pps.txt");
+    let indented: String =
+        stored.lines().map(|line| format!("    {line}").trim_end().to_string() + "\n").collect();
+    assert!(readme.contains("cargo run -- 65 --cable 5 --pps\n"));
+    assert!(readme.contains(&indented));
+}
+
+#[test]
 fn of_every_kind_and_below_5_v() {
     let list = "--words 2A11912C 0004B0F0 4F0190C8 92C19096 E403C000 C8DC213C";
     same_lines(list, include_str!("../stored/every_kind.txt"));
