@@ -10,16 +10,26 @@ use crate::Step;
 use crate::Written;
 use crate::records::RECORD;
 use crate::records::profile_at;
+use libc::STDERR_FILENO;
 use libc::STDIN_FILENO;
 use libc::STDOUT_FILENO;
 use lines::LONGEST;
 use lines::put_line;
 use lists::NO_WORDS;
 
+// A program has no exit status of its own to give, so it says here what it could not do.
+fn tell(text: &[u8]) {
+    io::write_all(STDERR_FILENO, text);
+}
+
 fn flush(out: &[u8], next: usize) -> bool
     requires { ⌜ next ≤ length (now out) ⌝ }
 {
-    io::write_all(STDOUT_FILENO, &out[..next])
+    if io::write_all(STDOUT_FILENO, &out[..next]) {
+        return true;
+    }
+    tell(b"caps: standard output cannot be written\n");
+    false
 }
 
 // A place with room for a line.
@@ -134,6 +144,7 @@ fn list_some(input: &mut [u8], kept: usize, out: &mut [u8], next: usize) -> Step
     let got = libc::read(STDIN_FILENO, &mut input[kept..]);
     if got < 0 {
         flush(out, next);
+        tell(b"caps: standard input cannot be read\n");
         return Step::Ended;
     }
     if got == 0 {
