@@ -2,6 +2,7 @@
 use crate::answering::answer_line;
 use crate::table::Table;
 use crate::table::no_rows;
+use libc::STDERR_FILENO;
 use libc::STDIN_FILENO;
 use lines::flush;
 use lines::put;
@@ -81,6 +82,15 @@ fn closed(console: Console) -> Console {
     now
 }
 
+// A program has no exit status of its own to give, so it says here what it could not do.
+fn tell(text: &[u8]) {
+    io::write_all(STDERR_FILENO, text);
+}
+
+fn tell_unwritten() {
+    tell(b"console: standard output cannot be written\n");
+}
+
 // What cannot be written is not written again, and no more lines are answered.
 fn broken_off(console: Console) -> Console {
     let mut now = closed(console);
@@ -92,12 +102,16 @@ fn broken_off(console: Console) -> Console {
 // Writes what waits, so that whoever typed the last line sees its answer, and then reads one block.
 fn serve_block(line: &mut [u8; 512], out: &mut [u8; 4096], console: Console) -> Console {
     if !flush(&*out, console.end) {
+        tell_unwritten();
         return broken_off(console);
     }
     let mut flushed = console;
     flushed.end = 0;
     let mut block = [0u8; 4096];
     let got = libc::read(STDIN_FILENO, &mut block);
+    if got < 0 {
+        tell(b"console: standard input cannot be read\n");
+    }
     if got <= 0 {
         return closed(flushed);
     }
@@ -131,7 +145,9 @@ fn end_input(line: &[u8; 512], out: &mut [u8; 4096], console: Console) {
         return;
     }
     let last = end_line(line, out, console);
-    flush(&*out, last.end);
+    if !flush(&*out, last.end) {
+        tell_unwritten();
+    }
 }
 
 pub(crate) fn serve() {
