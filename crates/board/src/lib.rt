@@ -1,5 +1,5 @@
-// What firmware calls (01, "Ports that share", and every public call of the floors below), each under a C name that begins with
-// `arin_`. `rt staticlib board` makes one archive of them.
+// What firmware calls: the sharing calls over lent rows (docs/STATEMENT.md, "Ports that share") and every call on lists, each under
+// a C name that begins with `arin_`. `rt staticlib board` makes one archive of them.
 mod listing;
 mod rows;
 mod sharing;

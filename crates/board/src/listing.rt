@@ -10,7 +10,8 @@ use rules::Profiled;
 use steps::HalfWatts;
 use verdicts::Verdict;
 
-// The default profile of a port maximum in half watts.
+// The default profile of a port maximum in half watts: present power is the maximum, a 3 A cable, rounded down, no PPS, no flags.
+// Refusals: 1.
 #[no_mangle]
 pub extern "C" fn arin_default_profile(max: u16) -> Profiled
     ensures { λ r. ⌜ ArinDefaults max r ⌝ }
@@ -18,6 +19,7 @@ pub extern "C" fn arin_default_profile(max: u16) -> Profiled
     rules::default_profile(HalfWatts(max))
 }
 
+// The list that a port with this profile advertises. Refusals: 1, 2, 3, 4, 5, 6.
 #[no_mangle]
 pub extern "C" fn arin_build(profile: Profile) -> Listing
     ensures { λ r. ⌜ ArinBuilds profile r ⌝ }
@@ -25,6 +27,8 @@ pub extern "C" fn arin_build(profile: Profile) -> Listing
     rules::build(profile)
 }
 
+// Whether a list keeps to the power rules of a profile. Rounding, PPS wanted and flags have to be in range, and do not matter beyond
+// that. Refusals: 1, 2, 3, 4, 5; those of `arin_shape`; 18; 19 (the first such word).
 #[no_mangle]
 pub extern "C" fn arin_check(profile: Profile, list: Words) -> Verdict
     ensures { λ r. ⌜ ArinChecks profile list r ⌝ }
@@ -32,6 +36,8 @@ pub extern "C" fn arin_check(profile: Profile, list: Words) -> Verdict
     rules::check(profile, list)
 }
 
+// Whether these words make an SPR source list. Refusals: 10; 11 (place 1); then word by word 12, 13, 15, 16, 14 (the word); 17 (the AVS
+// word).
 #[no_mangle]
 pub extern "C" fn arin_shape(list: Words) -> Verdict
     ensures { λ r. ⌜ ArinShapes list r ⌝ }
@@ -39,6 +45,7 @@ pub extern "C" fn arin_shape(list: Words) -> Verdict
     lists::shape(list)
 }
 
+// The objects of a list. Refusals: those of `arin_shape`.
 #[no_mangle]
 pub extern "C" fn arin_read(list: Words) -> FlatReading
     ensures { λ r. ⌜ ArinReads list r ⌝ }
@@ -46,6 +53,8 @@ pub extern "C" fn arin_read(list: Words) -> FlatReading
     flat::flat_read(list)
 }
 
+// The words of a list of objects. Refusals: 10; 7 (the first such object); then those of `arin_shape` for the words made. An object whose
+// kind is none of the five has no field that could be too wide: it gets 11 where it is the first, else 12 at its place.
 #[no_mangle]
 pub extern "C" fn arin_write(list: FlatObjects) -> Listing
     ensures { λ r. ⌜ ArinWrites list r ⌝ }
@@ -53,6 +62,8 @@ pub extern "C" fn arin_write(list: FlatObjects) -> Listing
     flat::flat_write(list)
 }
 
+// Whether a request word may be accepted on the list that was advertised. Refusals: those of `arin_shape`, with their places; then 20, 21,
+// 23, 22, 24, 25, with place 0.
 #[no_mangle]
 pub extern "C" fn arin_answer(list: Words, word: u32) -> Verdict
     ensures { λ r. ⌜ ArinAnswers list word r ⌝ }

@@ -1,4 +1,4 @@
-// The sharing calls over the lent rows (01, "Ports that share"). What a call does is decided by value, in `ports`.
+// The sharing calls over the lent rows (docs/STATEMENT.md, "Ports that share"). What a call does is decided by value, in `ports`.
 ghost use Rattle.board.specs.Promises.{SharesSetUp, SharesAttach, SharesAdvertise, SharesRequest, SharesDetach, SharesRemaining};
 use crate::rows::empty_rows;
 use crate::rows::put_row;
@@ -10,7 +10,8 @@ use ports::Row;
 use steps::HalfWatts;
 use verdicts::Verdict;
 
-// "Set-up takes M and PPS wanted from the rows as lent, empties all ports."
+// Empties every port: cable 0, present power 0, 15 half watts held. Of the rows as lent only `max` and `pps` matter. The capacity is in half
+// watts, from 15 for each row to 1600, and the same in each call. Refusals: 30, 32, then row by row 31, 4 (the row).
 #[no_mangle]
 pub extern "C" fn arin_set_up(rows: &mut [Row], capacity: u16) -> Verdict
     ensures { λ r. ⌜ SharesSetUp (now (rows .entry)) capacity r (now (rows .exit)) ⌝ }
@@ -21,7 +22,8 @@ pub extern "C" fn arin_set_up(rows: &mut [Row], capacity: u16) -> Verdict
     standing.fault
 }
 
-// "Attach and advertise set P to the smaller of M and capacity less the other rows' held, and return the list."
+// A cable of 3 or 5 amperes came to an empty port; port n is `rows[n - 1]`. Sets its present power to the smaller of its maximum and what
+// the other ports leave, and answers the list to send. Refusals: 30, 32, 37 (the first row at fault, or 0), 33, 3, 34 (the row).
 #[no_mangle]
 pub extern "C" fn arin_attach(rows: &mut [Row], capacity: u16, port: u8, cable: u8) -> Listing
     ensures { λ r. ⌜ SharesAttach (now (rows .entry)) capacity port cable r (now (rows .exit)) ⌝ }
@@ -33,6 +35,8 @@ pub extern "C" fn arin_attach(rows: &mut [Row], capacity: u16, port: u8, cable: 
     ports::offer(change)
 }
 
+// The same again for an attached port: its present power anew, and the list to send. What it holds stays. Refusals: 30, 32, 37 (the
+// first row at fault, or 0), 33, 35 (the row).
 #[no_mangle]
 pub extern "C" fn arin_advertise(rows: &mut [Row], capacity: u16, port: u8) -> Listing
     ensures { λ r. ⌜ SharesAdvertise (now (rows .entry)) capacity port r (now (rows .exit)) ⌝ }
@@ -44,7 +48,10 @@ pub extern "C" fn arin_advertise(rows: &mut [Row], capacity: u16, port: u8) -> L
     ports::offer(change)
 }
 
-// "An accepted request sets held to the larger of 15 and its power."
+// Judges a request word on the port's latest list. On success the port holds the power asked for: voltage times operating current, rounded
+// up to a half watt, at least 15 half watts, and for PPS at most its present power. On a refusal it holds what it held. 36 is given exactly
+// when the other ports leave less than the request would hold. Refusals: 30, 32, 37 (the first row at fault, or 0), 33, 35 (the row),
+// then 20, 21, 23, 22, 24, 25, then 36 (the row).
 #[no_mangle]
 pub extern "C" fn arin_request(rows: &mut [Row], capacity: u16, port: u8, word: u32) -> Verdict
     ensures { λ r. ⌜ SharesRequest (now (rows .entry)) capacity port word r (now (rows .exit)) ⌝ }
@@ -56,7 +63,7 @@ pub extern "C" fn arin_request(rows: &mut [Row], capacity: u16, port: u8, word: 
     change.answer
 }
 
-// "Detach empties."
+// The cable of an attached port is gone: empties the port. Refusals: 30, 32, 37 (the first row at fault, or 0), 33, 35 (the row).
 #[no_mangle]
 pub extern "C" fn arin_detach(rows: &mut [Row], capacity: u16, port: u8) -> Verdict
     ensures { λ r. ⌜ SharesDetach (now (rows .entry)) capacity port r (now (rows .exit)) ⌝ }
@@ -68,7 +75,7 @@ pub extern "C" fn arin_detach(rows: &mut [Row], capacity: u16, port: u8) -> Verd
     change.answer
 }
 
-// "Remaining power is capacity less all held."
+// What no port holds. An empty port holds 15 half watts. Refusals: 30, 32, 37 (the first row at fault, or 0).
 #[no_mangle]
 pub extern "C" fn arin_remaining(rows: &[Row], capacity: u16) -> RemainingPower
     ensures { λ r. ⌜ SharesRemaining (now (rows .entry)) capacity r ⌝ }

@@ -10,6 +10,7 @@ use crate::KIND_VARIABLE;
 use crate::Raised;
 use objects::Object;
 
+// An object as a flat one: the fields of its kind, and all others zero. Nothing is refused.
 pub fn flatten(o: Object) -> FlatObject
     ensures { λ r. ⌜ Flattens o r ⌝ }
 {
@@ -65,6 +66,8 @@ pub fn flatten(o: Object) -> FlatObject
     }
 }
 
+// The object of a flat one; the fields that its kind does not have are not read. `Unknown` (refusal 12) where the kind number is none of
+// the five.
 pub fn raise(flat: FlatObject) -> Raised
     ensures { λ r. ⌜ Raises flat r ⌝ }
 {

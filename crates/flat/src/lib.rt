@@ -16,15 +16,19 @@ use steps::Mw250;
 use verdicts::Verdict;
 pub use writing::flat_write;
 
-// The five kinds, in the order of 01 ("Object words"). Fixed is 0, so that an empty place is all zero.
+// The kind of a fixed object. The five kinds are in the order of `objects::Object`; fixed is 0, so that an empty place is all zero.
 pub const KIND_FIXED: u8 = 0;
 
+// The kind of a battery object.
 pub const KIND_BATTERY: u8 = 1;
 
+// The kind of a variable object.
 pub const KIND_VARIABLE: u8 = 2;
 
+// The kind of a PPS object.
 pub const KIND_PPS: u8 = 3;
 
+// The kind of an SPR AVS object.
 pub const KIND_AVS: u8 = 4;
 
 // One object of any kind: each field has one step of measure, whatever the kind. A field that a kind does not have is
@@ -33,11 +37,11 @@ pub const KIND_AVS: u8 = 4;
 pub struct FlatObject {
     // One of the five above; any other number is no object.
     pub kind: u8,
-    // Fixed.
+    // Fixed: bits 29..23 of the word. In a built list this is twice the profile's flags.
     pub flags: u8,
-    // Fixed and AVS: peak current.
+    // Fixed and AVS: peak current, 0 to 3.
     pub peak: u8,
-    // PPS: power limited.
+    // PPS: power limited, 0 or 1.
     pub limited: u8,
     // Fixed: the voltage, in 50 mV.
     pub volts: Mv50,
@@ -57,27 +61,33 @@ pub struct FlatObject {
     pub current50: Ma50,
     // AVS: the current for 9 to 15 V, in 10 mA.
     pub low: Ma10,
-    // AVS: the current for 15 to 20 V, in 10 mA.
+    // AVS: the current for 15 to 20 V, in 10 mA; 0 where the range ends at 15 V.
     pub high: Ma10,
 }
 
 // Seven objects and how many of them count. What lies past the count is returned as zero and not read on the way in.
 #[repr(C)]
 pub struct FlatObjects {
+    // The objects, in order.
     pub places: [FlatObject; 7],
+    // How many of them count: 1 to 7 in a list that passes, 0 on a refusal.
     pub count: u8,
 }
 
 // What reading gives: on a refusal the list is empty and all zero.
 #[repr(C)]
 pub struct FlatReading {
+    // The first refusal that applies, or success.
     pub verdict: Verdict,
+    // The objects.
     pub list: FlatObjects,
 }
 
 // The object of a flat one, or a kind number that is none of the five (refusal 12).
 pub enum Raised {
+    // The object.
     Known(Object),
+    // The kind number is none of the five.
     Unknown,
 }
 

@@ -42,7 +42,7 @@ fn flatten_words(list: Words) -> FlatObjects
     FlatObjects { places, count }
 }
 
-// The objects of a list whose shape passes.
+// The objects of a list, as `lists::read` gives them. Refusals: those of `lists::shape`, with their places.
 pub fn flat_read(list: Words) -> FlatReading
     ensures { λ r. ⌜ FlatReads list r ⌝ }
 {

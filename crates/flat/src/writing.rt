@@ -56,7 +56,9 @@ fn encode_places(list: FlatObjects) -> Listing
     }
 }
 
-// The words of objects whose fields fit, if the words make a list, as `lists::write` makes them.
+// The words of a list of objects, as `lists::write` makes them. Refusals: 10; 7 (the first such object); then those of `lists::shape` for
+// the words made. An object whose kind is none of the five has no field that could be too wide: it gets 11 where it is the first, else 12
+// at its place.
 pub fn flat_write(list: FlatObjects) -> Listing
     ensures { λ r. ⌜ FlatWrites list r ⌝ }
 {

@@ -1,5 +1,5 @@
-// Lists in hand: seven places and a count (01, "What the library covers"). Their shape is checked here, and they are
-// read and written.
+// Lists in hand: seven places and a count (docs/STATEMENT.md, "Lists in hand"). Their shape is checked here, and they are read and
+// written.
 mod object_rules;
 mod read_list;
 mod shape_check;
@@ -17,31 +17,40 @@ pub use write_list::write;
 // Seven words and how many of them count. What lies past the count is not read.
 #[repr(C)]
 pub struct Words {
+    // The words of Source_Capabilities, in order.
     pub words: [u32; 7],
+    // How many of them count: 1 to 7 in a list that passes, 0 on a refusal.
     pub count: u8,
 }
 
 // One place of a decoded list.
 pub struct Place {
+    // The object that stands there.
     pub object: Object,
 }
 
-// Seven objects and how many of them count.
+// Seven objects and how many of them count. What lies past the count is not read.
 pub struct Objects {
+    // The objects, in order.
     pub places: [Place; 7],
+    // How many of them count: 1 to 7 in a list that passes, 0 on a refusal.
     pub count: u8,
 }
 
 // What reading gives: on a refusal the list is empty and all zero.
 pub struct Reading {
+    // The first refusal that applies, or success.
     pub verdict: Verdict,
+    // The objects.
     pub list: Objects,
 }
 
 // A list of words with its verdict: on a refusal the list is empty and all zero.
 #[repr(C)]
 pub struct Listing {
+    // The first refusal that applies, or success.
     pub verdict: Verdict,
+    // The words.
     pub list: Words,
 }
 

@@ -31,7 +31,7 @@ fn decode_words(list: Words) -> Objects
     Objects { places, count }
 }
 
-// The objects of a list whose shape passes.
+// The objects of a list. Refusals: those of `shape`, with their places.
 pub fn read(list: Words) -> Reading
     ensures { λ r. ⌜ Reads list r ⌝ }
 {

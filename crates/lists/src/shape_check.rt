@@ -1,4 +1,4 @@
-// The shape check (01, "Shape of a list").
+// The shape check (docs/STATEMENT.md, "Shape of a list").
 ghost use mathlib.Core.Path.{_≡_};
 ghost use mathlib.Core.Bool.{cond};
 ghost use Prim.Native.Nat.{_≤_};
@@ -211,7 +211,8 @@ fn judge_avs(list: Words, avs: u8) -> Verdict
     }
 }
 
-// The shape check: the number and the place of the first refusal, or success.
+// Whether these words make an SPR source list. Refusals: 10; 11 (place 1); then word by word 12, 13, 15, 16, 14 (the word); 17 (the AVS
+// word).
 pub fn shape(list: Words) -> Verdict
     ensures { λ r. ⌜ Shapes list r ⌝ }
 {

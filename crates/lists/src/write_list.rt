@@ -11,7 +11,7 @@ use crate::shape_check::shape;
 use objects::Encoded;
 use verdicts::Verdict;
 
-// A refusal: the list is empty and all zero.
+// A listing of this number and place, whose list is empty and all zero: how a call that gives a list refuses.
 pub fn refuse(number: u8, place: u8) -> Listing
     ensures { λ r. ⌜ Refuses number place r ⌝ }
 {
@@ -49,7 +49,7 @@ fn encode_places(list: Objects) -> Listing
     }
 }
 
-// The words of objects whose fields fit, if the words make a list.
+// The words of a list of objects. Refusals: 10; 7 (the first such object); then those of `shape` for the words made.
 pub fn write(list: Objects) -> Listing
     ensures { λ r. ⌜ Writes list r ⌝ }
 {

@@ -1,4 +1,4 @@
-// From a word to an object. The fields are taken by shifts and masks at the bit places that 01 gives.
+// From a word to an object. The fields are taken by shifts and masks at their bit places (docs/STATEMENT.md, "Object words").
 ghost use Rattle.objects.specs.Promises.{TellsKind, Decodes, TellsReserved};
 ghost use Rattle.objects.specs.Decode.{fixedOf, batteryOf, variableOf, ppsOf, avsOf};
 ghost use mathlib.Core.Path.{_≡_};
@@ -69,7 +69,8 @@ fn avs(w: u32) -> Object
     }
 }
 
-// What a word says. It does not look at reserved bits: `reserved_bit_set` does.
+// The object of a word. `NotAllowed` (refusal 12) where its kind is one that no SPR list may hold. It does not look at reserved
+// bits: `reserved_bit_set` does.
 pub fn decode(w: u32) -> Decoded
     ensures { λ r. ⌜ Decodes w r ⌝ }
 {
@@ -91,8 +92,8 @@ pub fn decode(w: u32) -> Decoded
     }
 }
 
-// Whether a word is of this kind, given by one of the seven numbers; no word is of any other. For a caller that needs no
-// object and knows the number: one test is left.
+// Whether a word is of this kind, given by one of the seven numbers, `BITS_FIXED` and so on; no word is of any other. For a caller
+// that needs no object and knows the number: one test is left. Nothing is refused.
 pub fn is_kind(w: u32, kind: u32) -> bool
     ensures { λ r. ⌜ TellsKind w kind r ⌝ }
 {
@@ -105,7 +106,8 @@ pub fn is_kind(w: u32, kind: u32) -> bool
     (w >> 28) & 0xF == kind
 }
 
-// Whether a word has a bit set that is reserved for an object of this kind. The first word of a list may carry flags.
+// Whether a word has a bit set that is reserved for an object of this kind. The first word of a list may carry flags. Nothing is
+// refused: a list with such a word is, with 13.
 pub fn reserved_bit_set(o: Object, first: bool, w: u32) -> bool
     ensures { λ r. ⌜ TellsReserved o first w r ⌝ }
 {

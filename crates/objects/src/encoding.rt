@@ -14,7 +14,8 @@ use steps::Ma50;
 use steps::Mv50;
 use steps::Mv100;
 
-// The word of a fixed object; `encode` is the same for an object of any kind.
+// The word of a fixed object; `encode` is the same for an object of any kind. `TooWide` (refusal 7) where a field does not fit its
+// bits.
 pub fn fixed_word(flags: u8, peak: u8, volts: Mv50, current: Ma10) -> Encoded
     ensures { λ r. ⌜ Encodes (Object.Fixed flags peak volts current) r ⌝ }
 {
@@ -55,7 +56,7 @@ fn three_word(kind: u32, max: u16, min: u16, figure: u16) -> Encoded
     Encoded::Word((figure as u32) | ((min as u32) << 10) | ((max as u32) << 20) | (kind << 30))
 }
 
-// The word of a PPS object.
+// The word of a PPS object. `TooWide` (refusal 7) where a field does not fit its bits.
 pub fn pps_word(limited: u8, max: Mv100, min: Mv100, current: Ma50) -> Encoded
     ensures { λ r. ⌜ Encodes (Object.Pps limited max min current) r ⌝ }
 {
@@ -80,7 +81,7 @@ pub fn pps_word(limited: u8, max: Mv100, min: Mv100, current: Ma50) -> Encoded
     )
 }
 
-// The word of an SPR AVS object.
+// The word of an SPR AVS object. `TooWide` (refusal 7) where a field does not fit its bits.
 pub fn avs_word(peak: u8, low: Ma10, high: Ma10) -> Encoded
     ensures { λ r. ⌜ Encodes (Object.Avs peak low high) r ⌝ }
 {
@@ -98,7 +99,7 @@ pub fn avs_word(peak: u8, low: Ma10, high: Ma10) -> Encoded
     )
 }
 
-// The word of an object, with every reserved bit zero.
+// The word of an object, with every reserved bit zero. `TooWide` (refusal 7) where a field does not fit its bits.
 pub fn encode(o: Object) -> Encoded
     ensures { λ r. ⌜ Encodes o r ⌝ }
 {

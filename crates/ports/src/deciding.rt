@@ -1,4 +1,4 @@
-// What each sharing call decides (01, "Ports that share").
+// What each sharing call decides (docs/STATEMENT.md, "Ports that share").
 ghost use mathlib.Core.Path.{_≡_};
 ghost use mathlib.Core.Bool.{cond};
 ghost use mathlib.Core.List.{[], _∷_};
@@ -153,6 +153,8 @@ fn offered_row(standing: Standing, old: Row, capacity: HalfWatts, cable: u8) -> 
     }
 }
 
+// A cable came to an empty port: its row with this cable and a present power anew, which is the smaller of its maximum and what the
+// other rows leave. `offer` makes the list. Refusals: that of the standing (30, 32 or 37), 37 for the sum, 33, 3, 34 (the port).
 pub fn attach(standing: Standing, row: Row, capacity: HalfWatts, port: u8, cable: u8) -> Change
     ensures { λ r. ⌜ Attaches standing row capacity port cable r ⌝ }
 {
@@ -164,6 +166,8 @@ pub fn attach(standing: Standing, row: Row, capacity: HalfWatts, port: u8, cable
     change_row(port, new)
 }
 
+// An attached port is to be advertised again: its row with its present power anew. `offer` makes the list. Refusals: that of the standing
+// (30, 32 or 37), 37 for the sum, 33, 35 (the port).
 pub fn advertise(standing: Standing, row: Row, capacity: HalfWatts, port: u8) -> Change
     ensures { λ r. ⌜ Advertises standing row capacity port r ⌝ }
 {
@@ -175,7 +179,8 @@ pub fn advertise(standing: Standing, row: Row, capacity: HalfWatts, port: u8) ->
     change_row(port, new)
 }
 
-// ".. and return the list".
+// The list to send for what `attach` or `advertise` decided. Refusals: that of the change; 1, 2, 3 for a row that no list can be
+// built for.
 pub fn offer(change: Change) -> Listing
     ensures { λ r. ⌜ Offers change r ⌝ }
 {
@@ -201,7 +206,9 @@ fn hold(standing: Standing, row: Row, capacity: HalfWatts, port: u8, held: HalfW
     change_row(port, new)
 }
 
-// Judged on the list of the row's stored P.
+// A request judged on the list of the row's present power. On success the row holds what the request needs: voltage times operating
+// current, rounded up to a half watt, at least 15 half watts, and for PPS at most its present power. Refusals: that of the standing (30, 32
+// or 37), 37 for the sum, 33, 35 (the port), then 20, 21, 23, 22, 24, 25, then 36 (the port); 10 for a row that no list can be built for.
 pub fn request(standing: Standing, row: Row, capacity: HalfWatts, port: u8, word: u32) -> Change
     ensures { λ r. ⌜ Requests standing row capacity port word r ⌝ }
 {
@@ -223,6 +230,8 @@ pub fn request(standing: Standing, row: Row, capacity: HalfWatts, port: u8, word
     hold(standing, row, capacity, port, held)
 }
 
+// The cable of an attached port is gone: its row, emptied. Refusals: that of the standing (30, 32 or 37), 37 for the sum, 33, 35 (the
+// port).
 pub fn detach(standing: Standing, row: Row, capacity: HalfWatts, port: u8) -> Change
     ensures { λ r. ⌜ Detaches standing row capacity port r ⌝ }
 {
@@ -234,6 +243,7 @@ pub fn detach(standing: Standing, row: Row, capacity: HalfWatts, port: u8) -> Ch
     change_row(port, new)
 }
 
+// What no row holds: the capacity less all that is held. Refusals: that of the standing (30, 32 or 37), 37 for the sum.
 pub fn remaining(standing: Standing, capacity: HalfWatts) -> RemainingPower
     ensures { λ r. ⌜ Remains standing capacity r ⌝ }
 {

@@ -31,7 +31,7 @@ fn table_fault(count: usize, capacity: HalfWatts) -> Verdict
     verdict_at(verdicts::SUCCESS, 0)
 }
 
-// 30 and 32: no row is looked at yet.
+// How so many rows stand before the first is looked at. Its fault is 30, 32 or success.
 pub fn begin(count: usize, capacity: HalfWatts) -> Standing
     ensures { λ r. ⌜ Begins count capacity r ⌝ }
 {
@@ -43,7 +43,7 @@ pub fn begin(count: usize, capacity: HalfWatts) -> Standing
     }
 }
 
-// All rows, and none after a refusal.
+// How many rows to empty at set-up: all of them, and none after a refusal. Nothing is refused here.
 pub fn all_or_none(standing: Standing) -> usize
     ensures { λ r. ⌜ TellsAllOrNone standing r ⌝ }
 {
@@ -54,7 +54,7 @@ pub fn all_or_none(standing: Standing) -> usize
     standing.count
 }
 
-// Whether there is a row to look at after so many: none after a refusal.
+// Whether there is a row to look at after so many: none after a refusal. Nothing is refused here.
 pub fn goes_on(standing: Standing, judged: usize) -> bool
     ensures { λ r. ⌜ GoesOn standing judged r ⌝ }
 {
@@ -74,8 +74,9 @@ fn row_fault(row: Row, place: u8, fresh: bool) -> Verdict
     sound_fault(row, place)
 }
 
-// One row more. A standing that a caller makes up may hold anything, so the sum is cut to its 32 bits; that of eight sound rows is
-// 1600 at most.
+// How the rows stand with one row more, whose place counts from 1; `fresh` is `FRESH` or `SOUND`. After a refusal nothing changes. Its
+// fault is at set-up 31, then 4, in every other call 37, with that place. A standing that a caller makes up may hold anything, so the sum
+// is cut to its 32 bits; that of eight sound rows is 1600 at most.
 pub fn take_row(standing: Standing, row: Row, place: u8, fresh: bool) -> Standing
     ensures { λ r. ⌜ TakesRow standing row place fresh r ⌝ }
 {
@@ -106,7 +107,8 @@ pub(crate) fn end_fault(standing: Standing, capacity: HalfWatts) -> Verdict
     verdict_at(verdicts::SUCCESS, 0)
 }
 
-// Where the row of a port stands among the rows. After a refusal, or where there is no such port, it is past the end.
+// Where the row of a port, which counts from 1, stands among the rows, from 0. After a refusal, or where there is no such port, it is past
+// the end. Nothing is refused here.
 pub fn place_of(standing: Standing, port: u8) -> usize
     ensures { λ r. ⌜ TellsPlace standing port r ⌝ }
 {

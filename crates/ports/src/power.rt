@@ -1,5 +1,5 @@
-// The power of a request (01, "Ports that share"). A half watt is 1000 times 50 mV by 10 mA, 500 times 20 mV by 50 mA, and 400
-// times 25 mV by 50 mA: the steps are never turned into mV and mA.
+// The power of a request (docs/STATEMENT.md, "Ports that share"). A half watt is 1000 times 50 mV by 10 mA, 500 times 20 mV by 50 mA,
+// and 400 times 25 mV by 50 mA: the steps are never turned into mV and mA.
 ghost use mathlib.Core.Path.{_≡_};
 ghost use Prim.Native.Nat.{_<_, _*_, min, max};
 ghost use Rattle.steps.specs.Units.{mv20, mv25, mv50, ma10, ma50};

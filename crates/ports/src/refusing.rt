@@ -1,4 +1,4 @@
-// The refusals of the sharing calls, in their order (01, "Refusal numbers"), from how the rows stand and the port's own row.
+// The refusals of the sharing calls, in their order (docs/STATEMENT.md, "Refusal numbers"), from how the rows stand and the port's own row.
 ghost use mathlib.Core.Path.{_≡_};
 ghost use Rattle.verdicts.specs.Refusals.{verdictOf};
 ghost use Rattle.ports.specs.Standing.{portEndRefusals};

@@ -69,7 +69,7 @@ fn reserved_bit_set(o: Object, word: u32) -> bool
     }
 }
 
-// 24 comes before 25, and "the maximum figure likewise unless bit 26 is set".
+// 24 comes before 25, and there is no 25 where the sink says that it needs more than is offered (bit 26).
 fn judge_figures(operating_too_large: bool, maximum_too_large: bool, word: u32) -> Verdict
     ensures { λ r. ⌜ r ≡ verdictOf (figureRows «operating_too_large» «maximum_too_large» word) ⌝ }
 {
@@ -170,7 +170,8 @@ fn judge_avs(low: Ma10, high: Ma10, word: u32) -> Verdict
     placeless(verdicts::SUCCESS)
 }
 
-// A request judged by the object that it names, with that kind's limits. The position is not looked at: here is no list.
+// Whether a request word keeps to the limits of the object that it names. The position is not looked at: here is no list. Refusals: 21,
+// 23, 22, 24, 25, with place 0.
 pub fn judge(o: Object, word: u32) -> Verdict
     ensures { λ r. ⌜ JudgesRequest o word r ⌝ }
 {

@@ -11,7 +11,7 @@ use steps::Mv20;
 use steps::Mv25;
 use steps::Mw250;
 
-// The place of the object that a request names, from 1; whether a list has such a place is `answer`'s to say.
+// The place of the object that a request names, from 1. Nothing is refused: whether a list has such a place is `answer`'s to say.
 pub fn position(word: u32) -> u8
     ensures { λ r. ⌜ NamesPlace word r ⌝ }
 {

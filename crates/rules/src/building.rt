@@ -145,7 +145,7 @@ fn put_supply(words: &mut [u32; 7], at: usize, p: Profile, row: Supply) -> usize
     at
 }
 
-// "PPS, only when wanted".
+// Programmable supplies stand in a list only where they are wanted.
 fn put_supplies(words: &mut [u32; 7], from: usize, p: Profile) -> usize
     requires { ⌜ Within p × PutDown p (length (baseSlots (p .max .0))) (now words) from ⌝ }
     ensures { λ r. ⌜ PutDown p (builtCount p) (now (words .exit)) r ⌝ }
@@ -174,7 +174,7 @@ pub(crate) fn wants_too_much(p: Profile) -> bool
     }
 }
 
-// The list of a profile.
+// The list that a port with this profile advertises. Refusals: 1, 2, 3, 4, 5, 6.
 pub fn build(p: Profile) -> Listing
     ensures { λ r. ⌜ Builds p r ⌝ }
 {

@@ -148,7 +148,7 @@ fn follow_rails(p: Profile, list: Words) -> Walk
 
 // ---- AVS
 
-// "its second current is 0 when M ≤ 90", and only then.
+// The second current is 0 for a port maximum of at most 90, and only then.
 fn ends_right(p: Profile, high: Ma10) -> bool
     ensures { λ r. ⌜ r ≡ Bool·beq (ltb 90 (p .max .0)) (not (eqb (high .0) 0)) ⌝ }
 {
@@ -255,7 +255,8 @@ fn wrong_set() -> Verdict
     }
 }
 
-// Whether a list keeps to the power rules of a profile.
+// Whether a list keeps to the power rules of a profile. Rounding, PPS wanted and flags have to be in range, and do not matter beyond
+// that. Refusals: 1, 2, 3, 4, 5; those of `lists::shape`; 18; 19 (the first such word).
 pub fn check(p: Profile, list: Words) -> Verdict
     ensures { λ r. ⌜ Checks p list r ⌝ }
 {

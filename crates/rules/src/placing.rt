@@ -117,7 +117,8 @@ fn standing_at(p: Profile, asked: usize) -> Placed
     supply_at(p, base, asked)
 }
 
-// The word at a place of the list that `build` gives; a profile that it refuses has none.
+// The word at a place of the list that `build` gives, counted from 1. `NoPlace` (refusal 20) where that list has no such place; a profile
+// that `build` refuses has none.
 pub fn word_at(p: Profile, place: u8) -> Placed
     ensures { λ r. ⌜ PlacesWord p place r ⌝ }
 {

@@ -40,7 +40,7 @@ fn no_profile(number: u8) -> Profiled
     }
 }
 
-// Present power is the maximum, a 3 A cable, rounded down, no PPS, no flags.
+// The default profile of a port maximum: present power is the maximum, a 3 A cable, rounded down, no PPS, no flags. Refusals: 1.
 pub fn default_profile(max: HalfWatts) -> Profiled
     ensures { λ r. ⌜ Defaults max r ⌝ }
 {
@@ -71,7 +71,7 @@ pub fn judge_profile(p: Profile) -> Verdict
     Verdict { number, place: 0 }
 }
 
-// Whether a cable is refused with 3. One of 3 or 5 amperes is not.
+// Whether a cable of so many amperes is refused with 3. One of 3 or 5 amperes is not. Nothing is refused here.
 pub fn bad_cable(amperes: u8) -> bool
     ensures { λ r. ⌜ TellsBadCable amperes r ⌝ }
 {

@@ -1,5 +1,5 @@
-// The two tables of the power rules. The port maximum alone chooses their rows (004, tables 10-2, 10-7 and 10-8): a port with
-// little power left keeps its voltages. The builder and the rule check walk the same rows, in this order.
+// The two tables of the power rules (docs/STATEMENT.md, "Power rules"). The port maximum alone chooses their rows: a port with little
+// power left keeps its voltages. The builder and the rule check walk the same rows, in this order.
 use steps::HalfWatts;
 use steps::Mv100;
 
@@ -18,7 +18,7 @@ pub struct Supply {
     pub below: HalfWatts,
 }
 
-// 01: "a fixed table of four rows: voltage and the M it must exceed".
+// The voltages of the fixed part, from the lowest up.
 pub(crate) const RAILS: [Rail; 4] = [
     Rail {
         volts: 5,
@@ -38,13 +38,13 @@ pub(crate) const RAILS: [Rail; 4] = [
     },
 ];
 
-// "AVS is present exactly when M > 54; its second current is 0 when M ≤ 90."
+// The port maximum that a port with AVS exceeds.
 pub(crate) const AVS_ABOVE: HalfWatts = HalfWatts(54);
 
+// The port maximum that a port exceeds whose AVS goes past 15 V; below that the second current is 0.
 pub(crate) const AVS_PAST_15_V_ABOVE: HalfWatts = HalfWatts(90);
 
-// "9 V Prog (5 to 11 V) when 30 < M < 90; 15 V Prog (5 to 16 V) when 54 < M < 120; 20 V Prog (5 to 21 V) when M > 90." No port
-// reaches 201 half watts, so the last row has no end.
+// The programmable supplies, from the lowest up. No port reaches 201 half watts, so the last row has no end.
 pub(crate) const SUPPLIES: [Supply; 3] = [
     Supply {
         volts: 9,

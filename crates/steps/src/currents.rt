@@ -29,6 +29,7 @@ fn in_ma50(figure: u16, from: u32) -> InMa50
 }
 
 impl Ma10 {
+    // The same current in steps of 50 mA. Refused where no whole figure of 16 bits gives it.
     pub fn to_ma50(self) -> InMa50
         ensures { λ r. ⌜ ConvertedToMa50 (self .0) 10 r ⌝ }
     {
@@ -37,6 +38,7 @@ impl Ma10 {
 }
 
 impl Ma50 {
+    // The same current in steps of 10 mA. Refused where no whole figure of 16 bits gives it.
     pub fn to_ma10(self) -> InMa10
         ensures { λ r. ⌜ ConvertedToMa10 (self .0) 50 r ⌝ }
     {

@@ -1,6 +1,6 @@
-// Steps of measure (01, "Steps of measure"). Each step is a type of its own, so in a field or a signature a figure in one
-// step never stands where another is expected. The number inside counts steps: `Mv50(100)` is 5 V. Taken out by `.0` it has
-// no step; there the contracts, which speak of mV, mA and mW, say what it measures.
+// Steps of measure (docs/STATEMENT.md, "Steps of measure"). Each step is a type of its own, so in a field or a signature a
+// figure in one step never stands where another is expected. The number inside counts steps: `Mv50(100)` is 5 V. Taken out by
+// `.0` it has no step; there the contracts, which speak of mV, mA and mW, say what it measures.
 
 mod currents;
 mod rounding;
@@ -42,34 +42,50 @@ pub struct Mw250(pub u16);
 #[repr(C)]
 pub struct HalfWatts(pub u16);
 
-// What a conversion answers: the same measure in the steps asked for, or a refusal where no whole figure of 16 bits
-// gives it ("converting one loses nothing or refuses").
+// A voltage asked for in steps of 20 mV. A conversion never loses anything: it gives the same measure, or it refuses.
 pub enum InMv20 {
+    // The same voltage.
     Exact(Mv20),
+    // No whole figure of 16 bits gives it.
     Refused,
 }
 
+// A voltage asked for in steps of 25 mV: the same, or a refusal.
 pub enum InMv25 {
+    // The same voltage.
     Exact(Mv25),
+    // No whole figure of 16 bits gives it.
     Refused,
 }
 
+// A voltage asked for in steps of 50 mV: the same, or a refusal.
 pub enum InMv50 {
+    // The same voltage.
     Exact(Mv50),
+    // No whole figure of 16 bits gives it.
     Refused,
 }
 
+// A voltage asked for in steps of 100 mV: the same, or a refusal.
 pub enum InMv100 {
+    // The same voltage.
     Exact(Mv100),
+    // No whole figure of 16 bits gives it.
     Refused,
 }
 
+// A current asked for in steps of 10 mA: the same, or a refusal.
 pub enum InMa10 {
+    // The same current.
     Exact(Ma10),
+    // No whole figure of 16 bits gives it.
     Refused,
 }
 
+// A current asked for in steps of 50 mA: the same, or a refusal.
 pub enum InMa50 {
+    // The same current.
     Exact(Ma50),
+    // No whole figure of 16 bits gives it.
     Refused,
 }

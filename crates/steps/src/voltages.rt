@@ -53,18 +53,21 @@ fn in_mv100(figure: u16, from: u32) -> InMv100
 }
 
 impl Mv20 {
+    // The same voltage in steps of 25 mV. Refused where no whole figure of 16 bits gives it.
     pub fn to_mv25(self) -> InMv25
         ensures { λ r. ⌜ ConvertedToMv25 (self .0) 20 r ⌝ }
     {
         in_mv25(self.0, 20)
     }
 
+    // The same voltage in steps of 50 mV. Refused where no whole figure of 16 bits gives it.
     pub fn to_mv50(self) -> InMv50
         ensures { λ r. ⌜ ConvertedToMv50 (self .0) 20 r ⌝ }
     {
         in_mv50(self.0, 20)
     }
 
+    // The same voltage in steps of 100 mV. Refused where no whole figure of 16 bits gives it.
     pub fn to_mv100(self) -> InMv100
         ensures { λ r. ⌜ ConvertedToMv100 (self .0) 20 r ⌝ }
     {
@@ -73,18 +76,21 @@ impl Mv20 {
 }
 
 impl Mv25 {
+    // The same voltage in steps of 20 mV. Refused where no whole figure of 16 bits gives it.
     pub fn to_mv20(self) -> InMv20
         ensures { λ r. ⌜ ConvertedToMv20 (self .0) 25 r ⌝ }
     {
         in_mv20(self.0, 25)
     }
 
+    // The same voltage in steps of 50 mV. Refused where no whole figure of 16 bits gives it.
     pub fn to_mv50(self) -> InMv50
         ensures { λ r. ⌜ ConvertedToMv50 (self .0) 25 r ⌝ }
     {
         in_mv50(self.0, 25)
     }
 
+    // The same voltage in steps of 100 mV. Refused where no whole figure of 16 bits gives it.
     pub fn to_mv100(self) -> InMv100
         ensures { λ r. ⌜ ConvertedToMv100 (self .0) 25 r ⌝ }
     {
@@ -93,18 +99,21 @@ impl Mv25 {
 }
 
 impl Mv50 {
+    // The same voltage in steps of 20 mV. Refused where no whole figure of 16 bits gives it.
     pub fn to_mv20(self) -> InMv20
         ensures { λ r. ⌜ ConvertedToMv20 (self .0) 50 r ⌝ }
     {
         in_mv20(self.0, 50)
     }
 
+    // The same voltage in steps of 25 mV. Refused where no whole figure of 16 bits gives it.
     pub fn to_mv25(self) -> InMv25
         ensures { λ r. ⌜ ConvertedToMv25 (self .0) 50 r ⌝ }
     {
         in_mv25(self.0, 50)
     }
 
+    // The same voltage in steps of 100 mV. Refused where no whole figure of 16 bits gives it.
     pub fn to_mv100(self) -> InMv100
         ensures { λ r. ⌜ ConvertedToMv100 (self .0) 50 r ⌝ }
     {
@@ -113,18 +122,21 @@ impl Mv50 {
 }
 
 impl Mv100 {
+    // The same voltage in steps of 20 mV. Refused where no whole figure of 16 bits gives it.
     pub fn to_mv20(self) -> InMv20
         ensures { λ r. ⌜ ConvertedToMv20 (self .0) 100 r ⌝ }
     {
         in_mv20(self.0, 100)
     }
 
+    // The same voltage in steps of 25 mV. Refused where no whole figure of 16 bits gives it.
     pub fn to_mv25(self) -> InMv25
         ensures { λ r. ⌜ ConvertedToMv25 (self .0) 100 r ⌝ }
     {
         in_mv25(self.0, 100)
     }
 
+    // The same voltage in steps of 50 mV. Refused where no whole figure of 16 bits gives it.
     pub fn to_mv50(self) -> InMv50
         ensures { λ r. ⌜ ConvertedToMv50 (self .0) 100 r ⌝ }
     {
