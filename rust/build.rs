@@ -1,5 +1,8 @@
-//! Reads the proved source, `crates/*/src/*.rt`, and writes it as one Rust file, a module for each crate.
+//! Reads the proved source, `crates/*/src/*.rt`, and writes it as one Rust file, a module for each crate. The sentences of the refusals come
+//! from the table that C reads too.
 
+#[path = "build/refusals.rs"]
+mod refusals;
 #[path = "build/strip.rs"]
 mod strip;
 
@@ -14,8 +17,9 @@ const LIBRARY: [&str; 9] = [
 
 fn main() {
     println!("cargo::rerun-if-changed=build.rs");
+    println!("cargo::rerun-if-changed=build/refusals.rs");
     println!("cargo::rerun-if-changed=build/strip.rs");
-    let root = PathBuf::from(env::var("CARGO_MANIFEST_DIR").unwrap()).join("..");
+    let root = root();
     let needs = read(&root.join("crates.txt"));
     let mut library = String::new();
     for name in LIBRARY {
@@ -28,8 +32,27 @@ fn main() {
         );
         writeln!(library, "pub mod {name} {{\n{text}}}\n").unwrap();
     }
-    let out = PathBuf::from(env::var("OUT_DIR").unwrap()).join("library.rs");
-    fs::write(out, library).unwrap();
+    let out = PathBuf::from(env::var("OUT_DIR").unwrap());
+    fs::write(out.join("library.rs"), library).unwrap();
+    fs::write(out.join("refusals.rs"), sentences(&root)).unwrap();
+}
+
+/// Where the proved source is. A package that cargo made has it inside; in the repository links stand there, and where those came out as
+/// plain files, as without symbolic links, it is one folder up.
+fn root() -> PathBuf {
+    let package = PathBuf::from(env::var("CARGO_MANIFEST_DIR").unwrap());
+    if package.join("crates").is_dir() {
+        return package;
+    }
+    package.join("..")
+}
+
+fn sentences(root: &Path) -> String {
+    let path = root.join("include/arinduleu_refusals.inc");
+    match refusals::rows(&read(&path)) {
+        Ok(rows) => refusals::function(&rows),
+        Err(why) => stop(&format!("{}: {why}", path.display())),
+    }
 }
 
 fn read(path: &Path) -> String {

@@ -2,8 +2,11 @@
 // A form that is not known here is an error with its line, never a guess.
 
 /// One source file as Rust. Beside the ghost text that is gone, these differ from the file:
-/// - a comment above an item, a field or a variant is a doc comment, and the one at the head of the file is the module's;
-/// - structs and enums derive `Clone`, `Copy` (every Rattle value is copied) and `Debug`, `PartialEq`, `Eq`;
+/// - a comment right above an item, and one above a field or a variant, is a doc comment, and the one at the head of the file is the
+///   module's;
+/// - structs and enums derive `Clone`, `Copy` (every Rattle value is copied), `PartialEq`, `Eq`, `Hash` and `Debug`, which those in
+///   `DEBUG_BY_HAND` do not, and some `Default` or an order (`ZERO_BY_DEFAULT`, `ORDERED`);
+/// - a public function that returns something is marked `#[must_use]`: a verdict that nobody looks at is a slip;
 /// - `crate::` names the Rattle crate, which is a module here;
 /// - functions are marked `#[inline]`: most are a few lines, and rustc looks into those of another package only where they are marked;
 /// - a struct of one number is `#[repr(transparent)]` and not `#[repr(C)]`: the same bytes, but handed on as the number itself;
@@ -14,7 +17,48 @@ pub struct Stripped {
     pub modules: Vec<String>,
 }
 
-const DERIVE: &str = "#[derive(Clone, Copy, Debug, PartialEq, Eq)]\n";
+/// Words are shown in hex, which no derive does: `rust/src/words.rs` has these.
+const DEBUG_BY_HAND: [&str; 3] = ["lists::Words", "objects::Encoded", "rules::Placed"];
+
+/// All zero is what an empty list, an empty place or a row before set-up has, and a measure of nothing. A profile that is all zero is
+/// refused, so it has no default. `rust/src/defaults.rs` has that of an object.
+const ZERO_BY_DEFAULT: [&str; 15] = [
+    "verdicts::Verdict",
+    "steps::Mv20",
+    "steps::Mv25",
+    "steps::Mv50",
+    "steps::Mv100",
+    "steps::Ma10",
+    "steps::Ma50",
+    "steps::Mw250",
+    "steps::HalfWatts",
+    "lists::Words",
+    "lists::Place",
+    "lists::Objects",
+    "ports::Row",
+    "flat::FlatObject",
+    "flat::FlatObjects",
+];
+
+/// Measures, and what somebody may want to keep sorted. An answer is neither.
+const ORDERED: [&str; 14] = [
+    "verdicts::Verdict",
+    "steps::Mv20",
+    "steps::Mv25",
+    "steps::Mv50",
+    "steps::Mv100",
+    "steps::Ma10",
+    "steps::Ma50",
+    "steps::Mw250",
+    "steps::HalfWatts",
+    "objects::Object",
+    "lists::Words",
+    "rules::Profile",
+    "ports::Row",
+    "flat::FlatObject",
+];
+
+const MUST_USE: &str = "#[must_use]\n";
 
 const INLINE: &str = "#[inline]\n";
 
@@ -118,6 +162,15 @@ impl<'a> Reader<'a> {
         Ok(())
     }
 
+    // A comment with an empty line behind it belongs to no item: it is a heading.
+    fn mark(&self) -> &'static str {
+        let is_comment = |l: &&str| l.trim_start().starts_with("//");
+        match self.rest.lines().find(|l| !is_comment(l)) {
+            Some(line) if line.is_empty() => "//",
+            _ => "///",
+        }
+    }
+
     // Items up to the end of the file, or of the block that they stand in.
     fn items(&mut self, whole_file: bool) -> Result<(), String> {
         loop {
@@ -140,7 +193,7 @@ impl<'a> Reader<'a> {
 
     fn item(&mut self) -> Result<(), String> {
         if self.rest.starts_with("//") {
-            return self.comment("///");
+            return self.comment(self.mark());
         }
         if self.rest.starts_with("#[no_mangle]\n") {
             self.take("#[no_mangle]\n".len());
@@ -213,7 +266,9 @@ impl<'a> Reader<'a> {
 
     fn type_item(&mut self, visible: &str) -> Result<(), String> {
         // A derive stands behind the attribute, if there is one, and before the item.
-        self.out.push_str(DERIVE);
+        let name = self.rest.split(|c| !is_word(c)).nth(1).unwrap_or("");
+        self.out
+            .push_str(&derive(&format!("{}::{name}", self.krate)));
         self.out.push_str(visible);
         let Some(end) = self.rest.find(['{', ';']) else {
             return self.fail("a type has no end");
@@ -249,8 +304,15 @@ impl<'a> Reader<'a> {
     // The signature, the contract, which goes, and the body.
     fn function(&mut self, visible: &str) -> Result<(), String> {
         let indent = self.out.len() - self.out.trim_end_matches(' ').len();
-        self.out.push_str(INLINE);
-        self.out.push_str(&" ".repeat(indent));
+        let behind = self.rest.split_once(')').map_or("", |(_, behind)| behind);
+        let mut marks = vec![INLINE];
+        if visible == "pub " && behind.trim_start().starts_with("->") {
+            marks.insert(0, MUST_USE);
+        }
+        for mark in marks {
+            self.out.push_str(mark);
+            self.out.push_str(&" ".repeat(indent));
+        }
         self.out.push_str(visible);
         self.through('(')?;
         self.through(')')?;
@@ -379,6 +441,21 @@ impl<'a> Reader<'a> {
         }
         Ok(())
     }
+}
+
+// Of a type by its crate and name.
+fn derive(name: &str) -> String {
+    let mut traits = vec!["Clone", "Copy", "PartialEq", "Eq", "Hash"];
+    if !DEBUG_BY_HAND.contains(&name) {
+        traits.push("Debug");
+    }
+    if ZERO_BY_DEFAULT.contains(&name) {
+        traits.push("Default");
+    }
+    if ORDERED.contains(&name) {
+        traits.extend(["PartialOrd", "Ord"]);
+    }
+    format!("#[derive({})]\n", traits.join(", "))
 }
 
 // As `pub struct Mv50(pub u16);`.

@@ -7,16 +7,41 @@
 //! Firmware calls [`board`]; [`rules`], [`lists`], [`requests`] and [`objects`] are the floors below it. Nothing panics, nothing is
 //! allocated, and there is no state but the rows that the caller lends.
 //!
-//! ```
-//! use arinduleu::{rules, steps::HalfWatts};
+//! # Refusals
 //!
-//! let default = rules::default_profile(HalfWatts(72));
-//! let listing = rules::build(default.profile);
-//! assert_eq!(listing.list.count, 4);
-//! assert_eq!(listing.list.words[0], 0x0001_912C);
+//! A call answers a [`verdicts::Verdict`], a number and a place, or a struct with a verdict beside the value. `ok` makes a `Result` of
+//! either, whose error is a [`Refusal`]: it says its sentence, and it is never a success.
+//!
 //! ```
+//! use arinduleu::rules::{build, default_profile, Profile};
+//! use arinduleu::steps::HalfWatts;
+//! use arinduleu::{requests, Refusal};
+//!
+//! fn main() -> Result<(), Refusal> {
+//!     // A port of 36 W with programmable supplies.
+//!     let default = default_profile(HalfWatts(72)).ok()?;
+//!     let list = build(Profile { pps: 1, ..default }).ok()?;
+//!     assert_eq!(list.as_slice()[0], 0x0001_912C);
+//!
+//!     // 3 A of the object at position 1, and then of one that the list does not have.
+//!     requests::answer(list, 0x1004_B12C).ok()?;
+//!     let refusal = requests::answer(list, 0x7004_B12C).ok().unwrap_err();
+//!     assert_eq!(refusal.number(), arinduleu::verdicts::POSITION);
+//!     assert_eq!(refusal.to_string(), "the request names a position that the list does not have (refusal 20)");
+//!     Ok(())
+//! }
+//! ```
+//!
+//! # Traits
+//!
+//! Every type can be copied, compared, hashed and shown; words are shown in hex. `Default` is all zero: success, an empty list or place, a
+//! row before set-up, a measure of nothing. [`rules::Profile`] has none, since one that is all zero is refused: see
+//! [`rules::default_profile`]. Measures are ordered by what they measure, verdicts and refusals by number and then by place. The order of
+//! profiles, rows, objects and lists of words goes by their fields as they are declared: it is for sorted collections, and says nothing of
+//! which is better.
 #![no_std]
 #![forbid(unsafe_code)]
+#![deny(missing_docs, rustdoc::broken_intra_doc_links)]
 // A parameter that only a contract reads is no slip.
 #![allow(unused_variables)]
 // The source is written for the prover, and stays as it is.
@@ -26,5 +51,13 @@
     clippy::manual_is_multiple_of,
     clippy::too_many_arguments
 )]
+
+mod defaults;
+mod refusal;
+mod results;
+mod slices;
+mod words;
+
+pub use refusal::Refusal;
 
 include!(concat!(env!("OUT_DIR"), "/library.rs"));

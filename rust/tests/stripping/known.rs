@@ -25,6 +25,9 @@ pub struct T(pub u16);
 
 struct Empty;
 
+// ---- a heading
+// of two lines
+
 pub(crate) enum E {
     // A variant.
     A { x: u8 },
@@ -65,6 +68,10 @@ pub extern "C" fn f(rows: &mut [S], n: u8) -> u8
 
 fn nothing() {}
 
+pub fn nothing_back(a: &mut [S])
+    ensures { λ _. ⌜ a ⌝ }
+{}
+
 pub(crate) fn plain(a: &[S]) -> bool {
     !(a.len() == 0)
 }
@@ -81,7 +88,7 @@ pub use inner::y;
 
 /// A struct.
 #[repr(C)]
-#[derive(Clone, Copy, Debug, PartialEq, Eq)]
+#[derive(Clone, Copy, PartialEq, Eq, Hash, Debug)]
 pub struct S {
     /// A field.
     pub a: u16,
@@ -89,13 +96,16 @@ pub struct S {
 }
 
 #[repr(transparent)]
-#[derive(Clone, Copy, Debug, PartialEq, Eq)]
+#[derive(Clone, Copy, PartialEq, Eq, Hash, Debug)]
 pub struct T(pub u16);
 
-#[derive(Clone, Copy, Debug, PartialEq, Eq)]
+#[derive(Clone, Copy, PartialEq, Eq, Hash, Debug)]
 struct Empty;
 
-#[derive(Clone, Copy, Debug, PartialEq, Eq)]
+// ---- a heading
+// of two lines
+
+#[derive(Clone, Copy, PartialEq, Eq, Hash, Debug)]
 pub(crate) enum E {
     /// A variant.
     A { x: u8 },
@@ -112,6 +122,7 @@ pub const NONE: S = S {
 
 impl T {
     /// A method.
+    #[must_use]
     #[inline]
     pub fn half(self) -> u16
     {
@@ -121,6 +132,7 @@ impl T {
 }
 
 /// A call from C.
+#[must_use]
 #[inline]
 pub fn f(rows: &mut [S], n: u8) -> u8
 {
@@ -136,6 +148,10 @@ pub fn f(rows: &mut [S], n: u8) -> u8
 fn nothing() {}
 
 #[inline]
+pub fn nothing_back(a: &mut [S])
+{}
+
+#[inline]
 pub(crate) fn plain(a: &[S]) -> bool {
     !(a.len() == 0)
 }
@@ -146,4 +162,31 @@ fn every_known_form() {
     let stripped = strip("x.rt", "home", SOURCE).unwrap();
     assert_eq!(stripped.text, STRIPPED);
     assert_eq!(stripped.modules, ["inner"]);
+}
+
+/// What a type derives beside that goes by its crate and its name.
+#[test]
+fn derives_of_a_type() {
+    let derived = |krate, item| {
+        let source = format!("// Why.\n\n{item}\n");
+        let text = strip("x.rt", krate, &source).unwrap().text;
+        text.lines().nth(2).unwrap().to_string()
+    };
+    let words = "pub struct Words {\n    pub count: u8,\n}";
+    assert_eq!(
+        derived("lists", words),
+        "#[derive(Clone, Copy, PartialEq, Eq, Hash, Default, PartialOrd, Ord)]"
+    );
+    assert_eq!(
+        derived("home", words),
+        "#[derive(Clone, Copy, PartialEq, Eq, Hash, Debug)]"
+    );
+    assert_eq!(
+        derived("steps", "pub struct Mv20(pub u16);"),
+        "#[derive(Clone, Copy, PartialEq, Eq, Hash, Debug, Default, PartialOrd, Ord)]"
+    );
+    assert_eq!(
+        derived("objects", "pub enum Encoded {\n    TooWide,\n}"),
+        "#[derive(Clone, Copy, PartialEq, Eq, Hash)]"
+    );
 }

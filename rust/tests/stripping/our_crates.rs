@@ -26,10 +26,10 @@ fn without_ghost_lines(name: &str, text: &str) -> Vec<String> {
 
 /// The lines that the reader gives, with plain comments again and without the attributes that it adds.
 fn without_additions(text: &str) -> Vec<String> {
-    let added = ["#[derive(Clone, Copy, Debug, PartialEq, Eq)]", "#[inline]"];
+    let added = ["#[derive(Clone, Copy, ", "#[inline]", "#[must_use]"];
     let kept = text
         .lines()
-        .filter(|line| !added.contains(&line.trim_start()));
+        .filter(|line| !added.iter().any(|a| line.trim_start().starts_with(a)));
     kept.map(|line| match line.trim_start().starts_with("//") {
         true => line.replacen("//!", "//", 1).replacen("///", "//", 1),
         false => line.replace("#[repr(transparent)]", "#[repr(C)]"),

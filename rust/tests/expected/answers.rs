@@ -1,0 +1,151 @@
+//! Every answer as a `Result` or an `Option`: `?` gives the value or the refusal of the call itself.
+
+use arinduleu::flat::{self, FlatObject, FlatObjects};
+use arinduleu::lists::{self, Objects, Words};
+use arinduleu::objects::{self, Object};
+use arinduleu::ports::{Row, NO_ROW};
+use arinduleu::rules::{self, Profile};
+use arinduleu::steps::{HalfWatts, Ma10, Ma50, Mv100, Mv20, Mv25, Mv50};
+use arinduleu::{board, requests, verdicts, Refusal};
+
+fn refusal(number: u8, place: u8) -> Refusal {
+    Refusal::new(number, place).unwrap()
+}
+
+/// 36 W with PPS and a 3 A cable.
+fn example() -> Result<Words, Refusal> {
+    let default = rules::default_profile(HalfWatts(72)).ok()?;
+    rules::build(Profile { pps: 1, ..default }).ok()
+}
+
+#[test]
+fn lists_and_profiles() {
+    let list = example().unwrap();
+    assert_eq!(list.count, 6);
+    let read: Objects = lists::read(list).ok().unwrap();
+    assert_eq!(lists::write(read).ok(), Ok(list));
+    let flat: FlatObjects = flat::flat_read(list).ok().unwrap();
+    assert_eq!(flat::flat_write(flat).ok(), Ok(list));
+
+    let profile = rules::default_profile(HalfWatts(201));
+    assert_eq!(profile.ok(), Err(refusal(verdicts::PORT_MAXIMUM, 0)));
+    let twice = Words {
+        words: [list.words[0]; 7],
+        count: 2,
+    };
+    assert_eq!(lists::read(twice).ok(), Err(refusal(verdicts::ORDER, 2)));
+    assert_eq!(
+        flat::flat_read(twice).ok(),
+        Err(refusal(verdicts::ORDER, 2))
+    );
+    assert_eq!(
+        lists::write(Objects::default()).ok(),
+        Err(refusal(verdicts::COUNT, 0))
+    );
+}
+
+#[test]
+fn ports_that_share() {
+    fn share(rows: &mut [Row], cable: u8) -> Result<HalfWatts, Refusal> {
+        board::arin_set_up(rows, 200).ok()?;
+        let list = board::arin_attach(rows, 200, 1, cable).ok()?;
+        assert_eq!(list.count, 5);
+        board::arin_request(rows, 200, 1, 0x4005_1545).ok()?;
+        board::arin_remaining(rows, 200).ok()
+    }
+    let row = Row {
+        max: HalfWatts(130),
+        ..NO_ROW
+    };
+    assert_eq!(share(&mut [row; 2], 5), Ok(HalfWatts(55)));
+    assert_eq!(share(&mut [row; 2], 4), Err(refusal(verdicts::CABLE, 0)));
+    assert_eq!(
+        share(&mut [row; 9], 5),
+        Err(refusal(verdicts::ROW_COUNT, 0))
+    );
+    assert_eq!(
+        board::arin_remaining(&[row], 200).ok(),
+        Err(refusal(verdicts::ROWS_NOT_SOUND, 1))
+    );
+}
+
+#[test]
+fn one_object() {
+    let list = example().unwrap();
+    let fixed = objects::decode(list.words[0]).ok().unwrap();
+    assert_eq!(objects::encode(fixed).ok(), Ok(list.words[0]));
+    assert_eq!(flat::raise(flat::flatten(fixed)).ok(), Ok(fixed));
+    assert_eq!(
+        objects::decode(0xF000_0000).ok(),
+        Err(refusal(verdicts::KIND_NOT_ALLOWED, 0))
+    );
+    let wide = objects::fixed_word(0, 4, Mv50(100), Ma10(300));
+    assert_eq!(wide.ok(), Err(refusal(verdicts::FIELD_TOO_WIDE, 0)));
+    let of_no_kind = FlatObject {
+        kind: 5,
+        ..FlatObject::default()
+    };
+    assert_eq!(
+        flat::raise(of_no_kind).ok(),
+        Err(refusal(verdicts::KIND_NOT_ALLOWED, 0))
+    );
+}
+
+#[test]
+fn one_word_of_a_list() {
+    let list = example().unwrap();
+    let default = rules::default_profile(HalfWatts(72)).ok().unwrap();
+    let profile = Profile { pps: 1, ..default };
+    for (at, word) in (1..).zip(list.as_slice()) {
+        assert_eq!(rules::word_at(profile, at).ok(), Ok(*word));
+    }
+    assert_eq!(
+        rules::word_at(profile, 7).ok(),
+        Err(refusal(verdicts::POSITION, 0))
+    );
+    assert_eq!(
+        requests::answer(list, 0x7000_0000).ok(),
+        Err(refusal(verdicts::POSITION, 0))
+    );
+}
+
+/// The same by `From`, for code that is generic over it.
+#[test]
+fn answers_are_turned_into_results() {
+    let list = example().unwrap();
+    let default = rules::default_profile(HalfWatts(72));
+    let built: Result<Words, Refusal> = rules::build(default.profile).into();
+    assert_eq!(built.unwrap().count, 4);
+    let profile: Result<Profile, Refusal> = default.into();
+    assert_eq!(profile, Ok(default.profile));
+    let read: Result<Objects, Refusal> = lists::read(list).into();
+    assert_eq!(read.unwrap().count, 6);
+    let flat: Result<FlatObjects, Refusal> = flat::flat_read(list).into();
+    assert_eq!(flat.unwrap().count, 6);
+    let power: Result<HalfWatts, Refusal> = board::arin_remaining(&[], 15).into();
+    assert_eq!(power, Err(refusal(verdicts::ROW_COUNT, 0)));
+    let object: Result<Object, Refusal> = objects::decode(0xD000_0000).into();
+    assert_eq!(object, Err(refusal(verdicts::KIND_NOT_ALLOWED, 0)));
+    let word: Result<u32, Refusal> = objects::encode(Object::default()).into();
+    assert_eq!(word, Ok(0));
+    let word: Result<u32, Refusal> = rules::word_at(default.profile, 0).into();
+    assert_eq!(word, Err(refusal(verdicts::POSITION, 0)));
+    let object: Result<Object, Refusal> = flat::raise(FlatObject::default()).into();
+    assert_eq!(object, Ok(Object::default()));
+}
+
+#[test]
+fn conversions() {
+    assert_eq!(Mv50(100).to_mv20().exact(), Some(Mv20(250)));
+    assert_eq!(Mv50(1).to_mv20().exact(), None);
+    assert_eq!(Mv50(100).to_mv25().exact(), Some(Mv25(200)));
+    assert_eq!(Mv50(40000).to_mv25().exact(), None);
+    assert_eq!(Mv100(50).to_mv50().exact(), Some(Mv50(100)));
+    assert_eq!(Mv20(1).to_mv50().exact(), None);
+    assert_eq!(Mv50(100).to_mv100().exact(), Some(Mv100(50)));
+    assert_eq!(Mv50(101).to_mv100().exact(), None);
+    assert_eq!(Ma50(60).to_ma10().exact(), Some(Ma10(300)));
+    assert_eq!(Ma50(20000).to_ma10().exact(), None);
+    assert_eq!(Ma10(300).to_ma50().exact(), Some(Ma50(60)));
+    assert_eq!(Ma10(301).to_ma50().exact(), None);
+}

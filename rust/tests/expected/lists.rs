@@ -1,0 +1,61 @@
+//! Lists as slices, and slices as lists.
+
+use arinduleu::flat::{FlatObject, FlatObjects};
+use arinduleu::lists::{Objects, Place, Words, EMPTY_PLACE};
+use arinduleu::objects::Object;
+use arinduleu::steps::{Ma10, Mv50};
+use arinduleu::{verdicts, Refusal};
+
+/// Every count, those above seven too.
+#[test]
+fn what_counts_is_a_slice() {
+    let words = [1, 2, 3, 4, 5, 6, 7];
+    let flat = words.map(|kind| FlatObject {
+        kind: kind as u8,
+        ..FlatObject::default()
+    });
+    let places = words.map(|volts| Place::from(fixed(volts as u16)));
+    for count in 0..=255 {
+        let n = usize::from(count).min(7);
+        let list = Words { words, count };
+        assert_eq!(list.as_slice(), &words[..n]);
+        assert_eq!(list.as_ref(), &words[..n]);
+        assert_eq!(Objects { places, count }.as_slice(), &places[..n]);
+        let places = flat;
+        assert_eq!(FlatObjects { places, count }.as_slice(), &flat[..n]);
+    }
+}
+
+#[test]
+fn a_slice_is_a_list() {
+    let refused = Refusal::new(verdicts::COUNT, 0).unwrap();
+    let words: Vec<u32> = (1..=9).collect();
+    let objects: Vec<Object> = (1..=9).map(fixed).collect();
+    for n in 0..=7 {
+        let list = Words::try_from(&words[..n]).unwrap();
+        assert_eq!(list.as_slice(), &words[..n]);
+        assert!(list.words[n..].iter().all(|w| *w == 0));
+        let list = Objects::try_from(&objects[..n]).unwrap();
+        assert_eq!(usize::from(list.count), n);
+        assert!(list
+            .places
+            .iter()
+            .zip(&objects[..n])
+            .all(|(p, o)| p.object == *o));
+        assert!(list.places[n..].iter().all(|p| *p == EMPTY_PLACE));
+    }
+    for n in 8..=9 {
+        assert_eq!(Words::try_from(&words[..n]), Err(refused));
+        assert_eq!(Objects::try_from(&objects[..n]), Err(refused));
+    }
+    assert_eq!(Words::try_from(&[0; 300][..]), Err(refused));
+}
+
+fn fixed(volts: u16) -> Object {
+    Object::Fixed {
+        flags: 0,
+        peak: 0,
+        volts: Mv50(volts),
+        current: Ma10(300),
+    }
+}

@@ -1,0 +1,127 @@
+//! The traits that every Rust user looks for, and `#[must_use]` on every call.
+
+use arinduleu::flat::{FlatObject, FlatObjects, KIND_FIXED};
+use arinduleu::lists::{self, Objects, Place, Words, EMPTY_PLACE, NO_WORDS};
+use arinduleu::objects::{self, Encoded, Object};
+use arinduleu::ports::{Row, NO_ROW};
+use arinduleu::rules::{self, Placed, Profile};
+use arinduleu::steps::{HalfWatts, Ma10, Ma50, Mv100, Mv20, Mv25, Mv50, Mw250};
+use arinduleu::verdicts::{self, Verdict};
+use arinduleu::Refusal;
+use std::collections::{BTreeSet, HashSet};
+
+#[test]
+fn words_are_shown_in_hex() {
+    let list = Words {
+        words: [0x0001_912C, 0xE003_C000, 0, 0, 0, 0, 0],
+        count: 2,
+    };
+    assert_eq!(
+        format!("{list:?}"),
+        "Words { words: [0x0001912C, 0xE003C000, 0x00000000, 0x00000000, 0x00000000, 0x00000000, 0x00000000], count: 2 }"
+    );
+    let listing = lists::refuse(verdicts::ORDER, 3);
+    assert!(format!("{listing:?}").contains("Words { words: [0x00000000, "));
+    assert_eq!(
+        format!("{:?}", Encoded::Word(0xC8DC_323C)),
+        "Word(0xC8DC323C)"
+    );
+    assert_eq!(format!("{:?}", Encoded::TooWide), "TooWide");
+    assert_eq!(format!("{:?}", Placed::Word(10)), "Word(0x0000000A)");
+    assert_eq!(format!("{:?}", Placed::NoPlace), "NoPlace");
+}
+
+#[test]
+fn defaults_are_all_zero() {
+    assert_eq!(Verdict::default().ok(), Ok(()));
+    assert_eq!(Words::default(), NO_WORDS);
+    assert_eq!(Object::default(), EMPTY_PLACE.object);
+    assert_eq!(objects::encode(Object::default()), Encoded::Word(0));
+    assert_eq!(Place::default(), EMPTY_PLACE);
+    assert_eq!(Objects::default().places, [EMPTY_PLACE; 7]);
+    assert_eq!(Objects::default().count, 0);
+    assert_eq!(Row::default(), NO_ROW);
+    assert_eq!(FlatObject::default().kind, KIND_FIXED);
+    assert_eq!(
+        FlatObject::default(),
+        arinduleu::flat::flatten(Object::default())
+    );
+    assert_eq!(FlatObjects::default().count, 0);
+    assert_eq!(FlatObjects::default().places, [FlatObject::default(); 7]);
+}
+
+#[test]
+fn measures_are_ordered_by_what_they_measure() {
+    macro_rules! ordered {
+        ($($step:ident)*) => {$(
+            assert!($step(9) < $step(10) && $step(255) < $step(256));
+            assert_eq!($step::default(), $step(0));
+            assert_eq!([$step(3), $step(1), $step(2)].into_iter().max(), Some($step(3)));
+        )*};
+    }
+    ordered!(Mv20 Mv25 Mv50 Mv100 Ma10 Ma50 Mw250 HalfWatts);
+}
+
+#[test]
+fn verdicts_are_ordered_by_number_and_then_by_place() {
+    let verdict = |number, place| Verdict { number, place };
+    let sorted = [
+        verdict(0, 0),
+        verdict(1, 0),
+        verdict(14, 2),
+        verdict(14, 3),
+        verdict(15, 1),
+    ];
+    assert!(sorted.is_sorted());
+    let refusals: Vec<Refusal> = sorted.iter().filter_map(|v| v.ok().err()).collect();
+    assert_eq!(refusals.len(), 4);
+    assert!(refusals.is_sorted());
+}
+
+/// Keys of a hashed and of a sorted collection.
+#[test]
+fn what_is_kept_in_collections() {
+    let profiles = [60, 72, 60].map(|m| rules::default_profile(HalfWatts(m)).profile);
+    let lists = profiles.map(|p| rules::build(p).list);
+    let objects = lists.map(|l| objects::decode(l.words[2]).ok().unwrap());
+    let rows = [60, 72, 60].map(|max| Row {
+        max: HalfWatts(max),
+        ..Row::default()
+    });
+    assert_eq!(both::<Profile>(&profiles), 2);
+    assert_eq!(both::<Words>(&lists), 2);
+    assert_eq!(both::<Object>(&objects), 2);
+    assert_eq!(both::<Row>(&rows), 2);
+    assert_eq!(both(&objects.map(arinduleu::flat::flatten)), 2);
+    let hashed = HashSet::from(lists.map(lists::read));
+    assert_eq!(hashed.len(), 2);
+}
+
+fn both<T: Copy + Eq + Ord + std::hash::Hash>(from: &[T]) -> usize {
+    let hashed: HashSet<T> = from.iter().copied().collect();
+    let sorted: BTreeSet<T> = from.iter().copied().collect();
+    assert_eq!(hashed.len(), sorted.len());
+    sorted.len()
+}
+
+/// As rustc reads the proved source: each public function that returns something is marked, and there is one for each that the table of
+/// public functions has.
+#[test]
+fn an_answer_must_be_used() {
+    let library = include_str!(concat!(env!("OUT_DIR"), "/library.rs"));
+    let lines: Vec<&str> = library.lines().map(str::trim_start).collect();
+    let mut marked = 0;
+    for (at, line) in lines.iter().enumerate() {
+        if !line.starts_with("pub fn ") {
+            continue;
+        }
+        assert!(line.contains(") -> "), "{line}");
+        assert_eq!(lines[at - 2..at], ["#[must_use]", "#[inline]"], "{line}");
+        marked += 1;
+    }
+    let table = include_str!("../../../docs/TRACE.md");
+    let (_, table) = table.split_once("## Every public function").unwrap();
+    let rows = table.lines().filter(|l| l.starts_with("| `")).count();
+    // Those that only their own crate can reach are marked too.
+    assert!(rows > 60 && marked >= rows, "{marked} marked, {rows} rows");
+}
