@@ -1,4 +1,4 @@
-# What ./test and tools/c_tests.sh share: the parts that this machine has no tools for. The caller sets `who`, its own name.
+# What ./test and the tests in tools/ share: the parts that this machine has no tools for. The caller sets `who`, its own name.
 
 # Each as `PART (WHY)`.
 skipped=()
