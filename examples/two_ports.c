@@ -1,19 +1,19 @@
 /*
  * A charger with two USB-C ports of 65 W that share 100 W. The program plays both sides and prints what happens. The comments say
- * what a real charger does at each step with its USB PD stack.
+ * what a real charger does at each step with its USB PD stack. The file is C and C++ at once.
  */
 #include <stdio.h>
 
 #include "arinduleu.h"
 
 /* Powers are in half watts. */
-enum { PORTS = 2, CAPACITY = 200, PORT_MAXIMUM = 130, CABLE_5_A = 5 };
+enum { PORTS = 2, CAPACITY = ARIN_WATTS(100), PORT_MAXIMUM = ARIN_WATTS(65), CABLE_5_A = 5 };
 
-static struct arin_row rows[PORTS] = { { .max = PORT_MAXIMUM }, { .max = PORT_MAXIMUM } };
+static struct arin_row rows[PORTS];
 
 static void print_refusal(struct arin_verdict v)
 {
-    printf("refusal %u, place %u\n", v.number, v.place);
+    printf("refusal %u, place %u: %s\n", v.number, v.place, arin_refusal_text(v.number));
 }
 
 static void print_supply(struct arin_flat_object o)
@@ -70,13 +70,13 @@ static void answer_request(uint8_t port, uint32_t word)
         printf("  accept: it holds %.1f W\n", rows[port - 1].held / 2.0);
         break;
     case ARIN_NO_POWER_NOW:
-        /* The list allows it, but the other port took the power since. Send Wait: the port keeps what it holds. Then send a list
-         * of what there is now, so that the sink can choose anew. */
+        /* The list allows it, but the other port took the power since. Send Wait, or Reject where the port has no contract yet:
+         * it keeps what it holds. Then send a list of what there is now, so that the sink can choose anew. */
         printf("  wait: it holds %.1f W\n", rows[port - 1].held / 2.0);
         send_list(port, arin_advertise(rows, PORTS, CAPACITY, port));
         break;
     default:
-        /* Send Reject: the port keeps what it holds. */
+        /* Send Reject: the port keeps what it holds. 20 to 25 are the sink's fault; any other number is a fault of this program. */
         printf("  reject: ");
         print_refusal(v);
     }
@@ -96,7 +96,9 @@ int main(void)
 {
     struct arin_verdict v;
 
-    /* Once, at power-on. A refusal here is a wrong constant above, and there is nothing to serve with. */
+    /* Once, at power-on. A refusal here is a wrong constant above, and there is nothing to serve with. No row wants PPS: pps is 0. */
+    for (int i = 0; i < PORTS; i++)
+        rows[i].max = PORT_MAXIMUM;
     v = arin_set_up(rows, PORTS, CAPACITY);
     if (v.number != ARIN_SUCCESS) {
         print_refusal(v);

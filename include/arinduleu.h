@@ -9,6 +9,7 @@
  * Answers. Any argument may be wrong: the answer is then a refusal, with its number and its place. All else in the answer is
  * zero, a list is empty, and no row is written. Success is number 0, place 0. Each call names its refusals in the order in which
  * they are looked for: the first that applies is given. Places count from 1; where no place is named it is 0.
+ * arin_refusal_text has a sentence for each number.
  *
  * Lists. A list is seven places and a count. Places past the count come back as zero and are not read on the way in.
  *
@@ -17,6 +18,8 @@
  *     touches during the call (for arin_remaining: that nothing else writes). No library can check this.
  *   - A count of zero is refused with 30, whatever the pointer, null too.
  *   - A count above 8 is refused with 30. The rows are owed all the same.
+ *   - A null pointer with a count above zero is a fault of the caller. libarinduleu_c.a takes it for no rows: 30. libboard.a does
+ *     not look at the pointer: it reads row 1 there as soon as count and capacity pass, and what then happens is undefined.
  *   - Port n is rows[n - 1].
  *   - Set up once. After that only the calls write the rows.
  *
@@ -27,6 +30,38 @@
 
 #include <stddef.h>
 #include <stdint.h>
+
+/* The version of the header, and of the library that it came with. */
+#define ARIN_VERSION_MAJOR 0
+#define ARIN_VERSION_MINOR 1
+#define ARIN_VERSION_PATCH 0
+#define ARIN_VERSION "0.1.0"
+
+/*
+ * Stands before every call: an answer that nobody looks at is a slip, and GCC and clang warn of it. Other compilers see nothing.
+ * Define it before the header to have another mark, or none.
+ */
+#ifndef ARIN_MUST_USE
+#if defined(__GNUC__) || defined(__clang__)
+#define ARIN_MUST_USE __attribute__((warn_unused_result))
+#else
+#define ARIN_MUST_USE
+#endif
+#endif
+
+/*
+ * Every power here is a number of half watts. From whole watts, and from watts and a half: ARIN_WATTS(65) is 130, and
+ * ARIN_WATTS_AND_A_HALF(7), 7.5 W, is 15. Of a constant they are one, and good for an initialiser, an enum or #if.
+ */
+#define ARIN_WATTS(watts) (2 * (watts))
+#define ARIN_WATTS_AND_A_HALF(watts) (2 * (watts) + 1)
+
+/*
+ * And back, for printing without floating point; both are unsigned. 15 half watts print as 7.5 W with
+ *   printf("%u.%u W", ARIN_WHOLE_WATTS(p), ARIN_TENTHS_OF_A_WATT(p))
+ */
+#define ARIN_WHOLE_WATTS(half_watts) ((half_watts) / 2u)
+#define ARIN_TENTHS_OF_A_WATT(half_watts) ((half_watts) % 2u * 5u)
 
 #ifdef __cplusplus
 extern "C" {
@@ -86,6 +121,23 @@ enum arin_refusal {
     ARIN_ROWS_NOT_SOUND = 37     /* the place is the first row at fault, or 0 when only the sum of what is held is */
 };
 
+/*
+ * One sentence for a refusal number, without a capital and a full stop, for a log or a screen. It is never null: a number that is
+ * none gets a sentence that says so. It stands here and in no library, so a program that does not call it does not carry it.
+ */
+ARIN_MUST_USE static inline const char *arin_refusal_text(unsigned number)
+{
+    switch (number) {
+#define ARIN_REFUSAL(number, name, sentence) \
+    case number: \
+        return sentence;
+#include "arinduleu_refusals.inc"
+#undef ARIN_REFUSAL
+    default:
+        return "there is no refusal of this number";
+    }
+}
+
 /* The kinds of objects, for arin_flat_object. */
 enum arin_kind {
     ARIN_KIND_FIXED = 0,
@@ -108,7 +160,7 @@ struct arin_profile {
     uint8_t cable;    /* amperes, 3 or 5 */
     uint8_t rounding; /* of the currents: 0 down, 1 up */
     uint8_t pps;      /* PPS wanted, 0 or 1 */
-    uint8_t flags;    /* 0..63: bits 29..24 of the first word */
+    uint8_t flags;    /* 0..63: bits 29..24 of the first word, such as 8 for unconstrained power, which is bit 27 */
 };
 
 struct arin_profiled {
@@ -179,46 +231,46 @@ struct arin_remaining_power {
  * The default profile of a port maximum in half watts: present power the maximum, 3 A cable, rounded down, no PPS, no flags.
  * Refusals: 1.
  */
-struct arin_profiled arin_default_profile(uint16_t max);
+ARIN_MUST_USE struct arin_profiled arin_default_profile(uint16_t max);
 
 /*
  * The list that a port with this profile advertises.
  * Refusals: 1, 2, 3, 4, 5, 6.
  */
-struct arin_listing arin_build(struct arin_profile profile);
+ARIN_MUST_USE struct arin_listing arin_build(struct arin_profile profile);
 
 /*
- * Whether a list keeps to the power rules of a profile. Rounding, PPS wanted and flags have to be in range, and do not matter
- * beyond that.
- * Refusals: 1, 2, 3, 4, 5; those of arin_shape; 18; 19 (first such word).
+ * Whether a list keeps to the power rules of a profile: number 0 where it does. Rounding, PPS wanted and flags have to be in range,
+ * and do not matter beyond that.
+ * Refusals: 1, 2, 3, 4, 5; those of arin_shape; 18; 19 (the first such word).
  */
-struct arin_verdict arin_check(struct arin_profile profile, struct arin_words list);
+ARIN_MUST_USE struct arin_verdict arin_check(struct arin_profile profile, struct arin_words list);
 
 /*
- * Whether these words make an SPR source list.
+ * Whether these words make an SPR source list: number 0 where they do.
  * Refusals: 10; 11 (place 1); then word by word 12, 13, 15, 16, 14 (the word); 17 (the AVS word).
  */
-struct arin_verdict arin_shape(struct arin_words list);
+ARIN_MUST_USE struct arin_verdict arin_shape(struct arin_words list);
 
 /*
  * The objects of a list.
  * Refusals: those of arin_shape.
  */
-struct arin_flat_reading arin_read(struct arin_words list);
+ARIN_MUST_USE struct arin_flat_reading arin_read(struct arin_words list);
 
 /*
  * The words of a list of objects.
- * Refusals: 10; 7 (first such object); then those of arin_shape for the words made: 11 (place 1); word by word 12, 13, 15, 16, 14
- * (the word); 17 (the AVS word). An object whose kind is none of the five has no field that could be too wide: it gets 11 where
+ * Refusals: 10; 7 (the first such object); then those of arin_shape for the words made: 11 (place 1); word by word 12, 13, 15, 16,
+ * 14 (the word); 17 (the AVS word). An object whose kind is none of the five has no field that could be too wide: it gets 11 where
  * it is the first, else 12 at its place.
  */
-struct arin_listing arin_write(struct arin_flat_objects list);
+ARIN_MUST_USE struct arin_listing arin_write(struct arin_flat_objects list);
 
 /*
- * Whether a request word (RDO) may be accepted on the list that was advertised.
+ * Whether a request word (RDO) may be accepted on the list that was advertised: number 0 where it may.
  * Refusals: those of arin_shape, with their places; then 20, 21, 23, 22, 24, 25.
  */
-struct arin_verdict arin_answer(struct arin_words list, uint32_t word);
+ARIN_MUST_USE struct arin_verdict arin_answer(struct arin_words list, uint32_t word);
 
 /* ---- Ports that share: capacity is in half watts, from 15 times count to 1600, and the same in each call ---- */
 
@@ -226,40 +278,41 @@ struct arin_verdict arin_answer(struct arin_words list, uint32_t word);
  * Empties every port: cable 0, present 0, held 15. Of the rows as lent only max and pps matter.
  * Refusals: 30, 32, then row by row 31, 4 (the row).
  */
-struct arin_verdict arin_set_up(struct arin_row *rows, size_t count, uint16_t capacity);
+ARIN_MUST_USE struct arin_verdict arin_set_up(struct arin_row *rows, size_t count, uint16_t capacity);
 
 /*
  * A cable of 3 or 5 amperes came to an empty port. Sets its present power to the smaller of its maximum and what the other ports
- * leave, and answers the list to send.
+ * leave, and answers the list to send: rounded down, flags 0, with PPS where the row wants it and its present power is its maximum.
  * Refusals: 30, 32, 37 (the first row at fault, or 0), 33, 3, 34 (the row).
  */
-struct arin_listing arin_attach(struct arin_row *rows, size_t count, uint16_t capacity, uint8_t port, uint8_t cable);
+ARIN_MUST_USE struct arin_listing arin_attach(struct arin_row *rows, size_t count, uint16_t capacity, uint8_t port, uint8_t cable);
 
 /*
- * The same again for an attached port: its present power anew, and the list to send. What it holds stays.
+ * The same again for an attached port: its present power anew, and the list to send. Its cable and what it holds stay.
  * Refusals: 30, 32, 37 (the first row at fault, or 0), 33, 35 (the row).
  */
-struct arin_listing arin_advertise(struct arin_row *rows, size_t count, uint16_t capacity, uint8_t port);
+ARIN_MUST_USE struct arin_listing arin_advertise(struct arin_row *rows, size_t count, uint16_t capacity, uint8_t port);
 
 /*
- * Judges a request word (RDO) on the port's latest list. On success the port holds the power asked for: voltage times operating
- * current, rounded up to a half watt, at least 15 half watts, and for PPS at most its present power. On a refusal it holds what it
- * held. 36 is given exactly when the other ports leave less than the request would hold.
+ * Judges a request word (RDO) on the port's latest list, which is made anew from its row: what was sent does not matter. On success
+ * the port holds the power asked for: voltage times operating current, rounded up to a half watt, at least 15 half watts, and for
+ * PPS at most its present power. On a refusal it holds what it held. 36 is given exactly when the list allows the request and the
+ * other ports leave less than it would hold.
  * Refusals: 30, 32, 37 (the first row at fault, or 0), 33, 35 (the row), then 20, 21, 23, 22, 24, 25, then 36 (the row).
  */
-struct arin_verdict arin_request(struct arin_row *rows, size_t count, uint16_t capacity, uint8_t port, uint32_t word);
+ARIN_MUST_USE struct arin_verdict arin_request(struct arin_row *rows, size_t count, uint16_t capacity, uint8_t port, uint32_t word);
 
 /*
  * The cable of an attached port is gone: empties the port.
  * Refusals: 30, 32, 37 (the first row at fault, or 0), 33, 35 (the row).
  */
-struct arin_verdict arin_detach(struct arin_row *rows, size_t count, uint16_t capacity, uint8_t port);
+ARIN_MUST_USE struct arin_verdict arin_detach(struct arin_row *rows, size_t count, uint16_t capacity, uint8_t port);
 
 /*
  * What no port holds. An empty port holds 15 half watts.
  * Refusals: 30, 32, 37 (the first row at fault, or 0).
  */
-struct arin_remaining_power arin_remaining(const struct arin_row *rows, size_t count, uint16_t capacity);
+ARIN_MUST_USE struct arin_remaining_power arin_remaining(const struct arin_row *rows, size_t count, uint16_t capacity);
 
 #ifdef __cplusplus
 }

@@ -13,8 +13,10 @@ case "${1:-}" in
     cat << 'END'
 usage: tools/c_tests.sh
 
-Compiles include/arinduleu.h as C11 and as C++17, and builds and runs
-examples/two_ports.c and the programs in tests/c
+Compiles include/arinduleu.h as C11 and as C++17, holds its names, its table of
+refusals and its version to the Rattle source and to cargo, and sees that an
+answer that is ignored is warned of. Builds and runs examples/two_ports.c and the
+programs in tests/c
   - with cc, against the library that cargo makes from rust/c;
   - with the clang of the Rattle kit, against the archive of `rt staticlib board`.
 What this machine has no tools for is skipped. The line before the last has
@@ -95,16 +97,76 @@ header_as() {
   done
 }
 
-# The calls, refusal numbers and kinds by name: those of the Rattle source, no more and no less.
+# The calls, refusal numbers and kinds by name: those of the Rattle source, no more and no less. Each call has the mark.
 header_names() {
   {
     sed -n 's/^pub use .*::\(arin_[a-z_]*\);$/\1/p' crates/board/src/lib.rt
     sed -n 's/^pub const \([A-Z0-9_]*\): u8 = \([0-9]*\);$/ARIN_\1 = \2/p' crates/verdicts/src/lib.rt crates/flat/src/lib.rt
   } | sort > "$made/wanted"
-  sed -n -e 's/^struct [a-z_]* \(arin_[a-z_]*\)(.*/\1/p' -e 's/^    \(ARIN_[A-Z0-9_]* = [0-9]*\).*/\1/p' include/arinduleu.h |
+  sed -n -e 's/^ARIN_MUST_USE struct [a-z_]* \(arin_[a-z_]*\)(.*/\1/p' -e 's/^    \(ARIN_[A-Z0-9_]* = [0-9]*\).*/\1/p' include/arinduleu.h |
     sort > "$made/named"
   diff "$made/wanted" "$made/named" >&2 || fail "the header does not name what crates/board, verdicts and flat do"
   pass "the header names the calls, refusals and kinds of the Rattle source ($(grep -c . "$made/named"))"
+}
+
+# The table of sentences: a row for each refusal number by name, one row a line, in the form that its readers know.
+refusal_table() {
+  local table=include/arinduleu_refusals.inc
+  sed -n 's/^pub const \([A-Z0-9_]*\): u8 = \([0-9]*\);$/\2 \1/p' crates/verdicts/src/lib.rt > "$made/wanted"
+  sed -n 's/^ARIN_REFUSAL(\([0-9]*\), \([A-Z0-9_]*\), "[^"\\]*")$/\1 \2/p' "$table" > "$made/named"
+  diff "$made/wanted" "$made/named" >&2 || fail "$table does not have the refusals of crates/verdicts, in their order"
+  [ "$(grep -c ARIN_REFUSAL "$table")" = "$(grep -c . "$made/named")" ] || fail "a row of $table is not in its form"
+  pass "the table of sentences has the refusals of the Rattle source ($(grep -c . "$made/named"))"
+}
+
+# Sets `version`: that of the header, which is cargo's. What is installed is held to it further down.
+header_version() {
+  local package
+  version=$(sed -n 's/^#define ARIN_VERSION "\(.*\)"$/\1/p' include/arinduleu.h)
+  [ -n "$version" ] || fail "the header has no version"
+  for package in rust/Cargo.toml rust/c/Cargo.toml; do
+    grep -qxF "version = \"$version\"" "$package" || fail "the header says version $version, and $package does not"
+  done
+  pass "the version is $version in the header and in cargo's packages"
+}
+
+# ignored_as LANGUAGE STANDARD COMPILER...: an answer that is ignored is warned of, call by call. For a compiler that does not say that
+# it is GCC or clang the mark is empty; the small headers go with it, since the machine's own ask who compiles them.
+ignored_as() {
+  local language=$1 standard=$2 compiler marked told words
+  shift 2
+  marked=$(grep -c '^ARIN_MUST_USE ' include/arinduleu.h)
+  for compiler in $(compilers "$@"); do
+    words=("$compiler" -x "$language" "-std=$standard" "${warnings[@]}" -c tests/c/ignored.c -o "$made/object.o")
+    if "${words[@]}" -Iinclude > "$made/log" 2>&1; then
+      fail "$compiler takes an answer that is ignored, as $standard"
+    fi
+    told=$(grep -c 'unused-result' "$made/log" || true)
+    [ "$told" = "$marked" ] || fail "$compiler warns of $told ignored answers, and $marked calls have the mark, as $standard"
+    quietly "the mark does not vanish for an unknown compiler ($compiler, $standard)" \
+      "${words[@]}" -U__GNUC__ -U__clang__ -nostdinc -isystem tests/c/kit -Iinclude
+    pass "an ignored answer is warned of, for each of $marked calls, by $compiler as $standard"
+  done
+}
+
+# The sentences are in a program that asks for one, and in no other.
+unused_text() {
+  local compiler option name sentence
+  sentence=$(sed -n 's/^ARIN_REFUSAL(36, .*"\(.*\)")$/\1/p' include/arinduleu_refusals.inc)
+  echo '#include "arinduleu.h"' > "$made/without.c"
+  { cat "$made/without.c"; echo 'const char *text(unsigned n) { return arin_refusal_text(n); }'; } > "$made/with.c"
+  for compiler in $(compilers cc gcc clang); do
+    for option in -O0 -Os; do
+      for name in without with; do
+        quietly "$compiler does not compile the header" "$compiler" -std=c11 "$option" -Iinclude -S "$made/$name.c" -o "$made/$name.s"
+      done
+      grep -qF "$sentence" "$made/with.s" || fail "the sentences are not in a program that asks for one, by $compiler $option"
+      if grep -qE "arin_|$sentence" "$made/without.s"; then
+        fail "the sentences are in a program that asks for none, by $compiler $option"
+      fi
+    done
+    pass "a program that asks for no sentence carries none, by $compiler"
+  done
 }
 
 # run_example WHERE RUNNER..., and the two below likewise: runs a program that was built, and compares. The runner is the words that
@@ -160,10 +222,14 @@ with_cc() {
   run_all "against the cargo library, $name"
 }
 
-# The calls once more as a C++ program: it links only because the header says extern "C".
+# The example and the calls once more as C++ programs: they link only because the header says extern "C".
 with_cxx() {
-  quietly "c++ does not build tests/c/calls.c" \
-    c++ -x c++ -std=c++17 "${warnings[@]}" -Iinclude tests/c/calls.c -x none "rust/target/$cargo_library" -o "$made/calls"
+  local source
+  for source in examples/two_ports.c tests/c/calls.c; do
+    quietly "c++ does not build $source" \
+      c++ -x c++ -std=c++17 "${warnings[@]}" -Iinclude "$source" -x none "rust/target/$cargo_library" -o "$(program "$source")"
+  done
+  run_example "against the cargo library, c++"
   run_calls "against the cargo library, c++"
 }
 
@@ -196,7 +262,11 @@ against_cargo() {
   with_cc "cc -O2" -O2
   with_cc "cc -O0" -O0
   with_sanitizers
-  if have c++; then with_cxx; else skip "the C++ tests of the cargo library" "no c++"; fi
+  if have c++; then
+    with_cxx
+  else
+    skip "the C++ tests of the cargo library" "no c++"
+  fi
   if have timeout; then with_checks; else skip "the C tests with rustc's checks" "no timeout"; fi
 }
 
@@ -232,8 +302,13 @@ against_kit() {
 }
 
 header_names
+refusal_table
+header_version
 header_as c c11 cc gcc clang
 header_as c++ c++17 c++ g++ clang++
+ignored_as c c11 cc gcc clang
+ignored_as c++ c++17 c++ g++ clang++
+unused_text
 against_cargo
 against_kit
 tell_skipped

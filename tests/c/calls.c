@@ -1,6 +1,6 @@
 /*
- * Each call of arinduleu.h on good and on refused input. The values are those of 01, "Checked by hand", or worked out from it.
- * The file is C and C++ at once, so that the header's extern "C" is linked with too.
+ * Each call of arinduleu.h on good and on refused input, and its macros. The values are those of the statement's hand-worked cases,
+ * or worked out from it. The file is C and C++ at once, so that the header's extern "C" is linked with too.
  */
 #include <stdio.h>
 
@@ -255,6 +255,89 @@ static int is_row(struct arin_row r, struct arin_row wanted)
            r.held == wanted.held;
 }
 
+/* ---- Numbers, texts, macros ---- */
+
+static int same(const char *a, const char *b)
+{
+    while (*a != 0 && *a == *b) {
+        a++;
+        b++;
+    }
+    return *a == *b;
+}
+
+/* The table as it is written, beside what the function makes of it. */
+struct refusal {
+    unsigned number;
+    unsigned named;
+    const char *sentence;
+};
+
+#define ARIN_REFUSAL(number, name, sentence) { number, ARIN_##name, sentence },
+static const struct refusal refusals[] = {
+#include "arinduleu_refusals.inc"
+};
+#undef ARIN_REFUSAL
+
+/* Whether the statement has such a refusal. */
+static int is_refusal(unsigned number)
+{
+    return (number <= 25 && number != 8) || (number >= 30 && number <= 37);
+}
+
+static void texts(void)
+{
+    const unsigned rows = sizeof refusals / sizeof refusals[0];
+    const char *none = arin_refusal_text(8);
+    unsigned i, j;
+
+    CHECK(rows == 33);
+    for (i = 0; i < rows; i++) {
+        CHECK(refusals[i].number == refusals[i].named);
+        CHECK(is_refusal(refusals[i].number));
+        CHECK(same(arin_refusal_text(refusals[i].number), refusals[i].sentence));
+        CHECK(!same(refusals[i].sentence, none) && !same(refusals[i].sentence, ""));
+        for (j = 0; j < i; j++)
+            CHECK(refusals[j].number != refusals[i].number && !same(refusals[j].sentence, refusals[i].sentence));
+    }
+    for (i = 0; i < 600; i++)
+        CHECK(is_refusal(i) == !same(arin_refusal_text(i), none));
+    CHECK(same(arin_refusal_text(0xFFFFFFFFu), none));
+    CHECK(same(none, "there is no refusal of this number"));
+    CHECK(same(arin_refusal_text(ARIN_NO_POWER_NOW), "the other ports hold the power that this request needs"));
+}
+
+#if ARIN_WATTS(65) != 130 || ARIN_WATTS_AND_A_HALF(7) != 15
+#error the watts are no constants for the preprocessor
+#endif
+
+enum { A_CONSTANT_OF_WATTS = ARIN_WATTS(100) };
+
+static const struct arin_row by_watts[] = { { ARIN_WATTS(60 + 5), 0, 0, 0, ARIN_WATTS_AND_A_HALF(3 + 4) } };
+
+static void watts(void)
+{
+    const uint16_t half_watts[] = { 0, 1, 15, 65535 };
+
+    CHECK(A_CONSTANT_OF_WATTS == 200);
+    CHECK(by_watts[0].max == 130 && by_watts[0].held == 15);
+    CHECK(ARIN_WATTS(0) == 0 && ARIN_WATTS_AND_A_HALF(0) == 1);
+    CHECK(ARIN_WHOLE_WATTS(half_watts[0]) == 0 && ARIN_TENTHS_OF_A_WATT(half_watts[0]) == 0);
+    CHECK(ARIN_WHOLE_WATTS(half_watts[1]) == 0 && ARIN_TENTHS_OF_A_WATT(half_watts[1]) == 5);
+    CHECK(ARIN_WHOLE_WATTS(half_watts[2]) == 7 && ARIN_TENTHS_OF_A_WATT(half_watts[2]) == 5);
+    CHECK(ARIN_WHOLE_WATTS(half_watts[3]) == 32767 && ARIN_TENTHS_OF_A_WATT(half_watts[3]) == 5);
+    CHECK(ARIN_WHOLE_WATTS(ARIN_WATTS(65)) == 65 && ARIN_TENTHS_OF_A_WATT(ARIN_WATTS(65)) == 0);
+}
+
+#define TEXT(words) #words
+#define TEXT_OF(macro) TEXT(macro)
+
+static void version(void)
+{
+    CHECK(same(ARIN_VERSION,
+               TEXT_OF(ARIN_VERSION_MAJOR) "." TEXT_OF(ARIN_VERSION_MINOR) "." TEXT_OF(ARIN_VERSION_PATCH)));
+}
+
 /* ---- Lists and requests ---- */
 
 static void default_profiles(void)
@@ -490,7 +573,7 @@ static void answers(void)
 
 /* ---- Ports that share ---- */
 
-/* The marked run of 01: capacity 200, two rows of M 130, 5 A. */
+/* The run of the statement's hand-worked cases: capacity 200, two rows of M 130, 5 A. */
 static void marked_run(void)
 {
     struct arin_words at_70 = words(5, 0x0001912C, 0x0002D12C, 0x0004B0E9, 0x000640AF, 0xE003A4AF, 0);
@@ -527,7 +610,7 @@ static void marked_run(void)
     CHECK(is_power(arin_remaining(r, 2, 200), 0, 0, 131));
 }
 
-/* One port of 36 W with PPS gets the listing of 01. Eight ports are the most. */
+/* One port of 36 W with PPS gets the listing of the README. Eight ports are the most. */
 static void more_runs(void)
 {
     struct arin_row r[8];
@@ -544,6 +627,56 @@ static void more_runs(void)
     CHECK(lists(arin_attach(r, 8, 1600, 8, 3), list_36_w()));
     CHECK(is_row(r[7], row(72, 1, 3, 72, 15)));
     CHECK(is_power(arin_remaining(r, 8, 1600), 0, 0, 1480));
+}
+
+/* What the README says of a hard reset, for port 1 that holds 65 W while port 2 is empty. */
+static void hard_reset(void)
+{
+    struct arin_row holds = row(130, 0, 5, 130, 130);
+    struct arin_row r[2];
+
+    /* Detach and attach: the list is new, and port 2 can have what was held. */
+    r[0] = holds;
+    r[1] = row(130, 0, 0, 0, 15);
+    CHECK(is(arin_detach(r, 2, 200, 1), 0, 0));
+    CHECK(lists(arin_attach(r, 2, 200, 1, 5), list_l()));
+    CHECK(is_row(r[0], row(130, 0, 5, 130, 15)));
+    CHECK(lists(arin_attach(r, 2, 200, 2, 5), list_l()));
+    CHECK(is(arin_request(r, 2, 200, 2, ask(4, 325)), 0, 0));
+    CHECK(is(arin_request(r, 2, 200, 1, ask(4, 325)), ARIN_NO_POWER_NOW, 1));
+
+    /* Advertise: the list is the same, and port 1 is sure of what it held. */
+    r[0] = holds;
+    r[1] = row(130, 0, 0, 0, 15);
+    CHECK(lists(arin_advertise(r, 2, 200, 1), list_l()));
+    CHECK(is_row(r[0], holds));
+    CHECK(arin_attach(r, 2, 200, 2, 5).verdict.number == 0 && r[1].present == 70);
+    CHECK(is(arin_request(r, 2, 200, 1, ask(4, 325)), 0, 0));
+}
+
+/* The flags of a shared list are 0. A board may set them in the first word: no check minds, and the answers stay. */
+static void flags_of_a_shared_list(void)
+{
+    struct arin_row r[1];
+    struct arin_listing l;
+    int bit;
+
+    r[0] = row(130, 0, 0, 0, 15);
+    l = arin_attach(r, 1, 200, 1, 5);
+    CHECK(lists(l, list_l()) && (l.list.words[0] & 0x3F800000) == 0);
+    for (bit = 24; bit <= 29; bit++) {
+        struct arin_words sent = l.list;
+
+        sent.words[0] |= (uint32_t)1 << bit;
+        CHECK(is(arin_shape(sent), 0, 0));
+        CHECK(is(arin_check(profile(130, 130, 5, 0, 0, 0), sent), 0, 0));
+        CHECK(is(arin_answer(sent, ask(1, 300)), 0, 0));
+        CHECK(is(arin_answer(sent, ask(1, 301)), 24, 0));
+        /* As a profile's flags it is the bit less 24. */
+        CHECK(lists(arin_build(profile(130, 130, 5, 0, 0, (uint8_t)(1 << (bit - 24)))), sent));
+    }
+    CHECK(is(arin_request(r, 1, 200, 1, ask(1, 300)), 0, 0));
+    CHECK(is(arin_request(r, 1, 200, 1, ask(1, 301)), 24, 0));
 }
 
 static void sets_up_none(void)
@@ -651,6 +784,9 @@ static void counts(void)
 
 int main(void)
 {
+    texts();
+    watts();
+    version();
     default_profiles();
     builds();
     builds_none();
@@ -662,6 +798,8 @@ int main(void)
     answers();
     marked_run();
     more_runs();
+    hard_reset();
+    flags_of_a_shared_list();
     sets_up_none();
     refused_for_their_own_reasons();
     not_sound();
