@@ -18,7 +18,9 @@ refusals and its version to the Rattle source and to cargo, and sees that an
 answer that is ignored is warned of. Builds and runs examples/two_ports.c and the
 programs in tests/c
   - with cc, against the library that cargo makes from rust/c;
-  - with the clang of the Rattle kit, against the archive of `rt staticlib board`.
+  - with the clang of the Rattle kit, against the archive of `rt staticlib board`;
+then the example outside the tree with what tools/install.sh installed, by
+pkg-config and by CMake.
 What this machine has no tools for is skipped. The line before the last has
 each part that was, with the reason.
 END
@@ -233,6 +235,83 @@ with_cxx() {
   run_calls "against the cargo library, c++"
 }
 
+# install_refuses TOLD WORD...: tools/install.sh with these words fails, and tells why.
+install_refuses() {
+  local told=$1
+  shift
+  if tools/install.sh "$@" > "$made/log" 2>&1; then
+    fail "tools/install.sh takes the words: $*"
+  fi
+  grep -qF -- "$told" "$made/log" || fail "tools/install.sh $* does not say: $told"
+}
+
+# by_pkg_config OUTSIDE, and the next likewise: the example in a folder of its own. What was installed is in moved/ there.
+by_pkg_config() {
+  local outside=$1 flags
+  have pkg-config || { skip "the C example by pkg-config" "no pkg-config"; return; }
+  local -x PKG_CONFIG_PATH="$outside/moved/lib/pkgconfig"
+  [ "$(pkg-config --modversion arinduleu)" = "$version" ] || fail "pkg-config does not find version $version"
+  flags=$(pkg-config --cflags --libs arinduleu) || fail "pkg-config does not find what was installed"
+  # shellcheck disable=SC2086 # the flags are several words
+  quietly "the example does not build by pkg-config" \
+    cc -std=c11 "${warnings[@]}" "$outside/two_ports.c" $flags -o "$made/two_ports"
+  run_example "installed, by pkg-config"
+}
+
+by_cmake() {
+  local outside=$1 why words newer
+  why=$(lacking cmake make)
+  [ -z "$why" ] || { skip "the C example by CMake" "$why"; return; }
+  words=(cmake -G "Unix Makefiles" "-DCMAKE_PREFIX_PATH=$outside/moved")
+  cat > "$outside/CMakeLists.txt" << END
+cmake_minimum_required(VERSION 3.13)
+project(outside C)
+find_package(arinduleu $version REQUIRED)
+if(NOT arinduleu_VERSION STREQUAL "$version")
+  message(FATAL_ERROR "this is version \${arinduleu_VERSION}")
+endif()
+add_executable(two_ports two_ports.c)
+target_link_libraries(two_ports PRIVATE arinduleu::arinduleu)
+END
+  quietly "CMake does not find what was installed" "${words[@]}" -S "$outside" -B "$outside/build"
+  quietly "the example does not build by CMake" cmake --build "$outside/build"
+  cp "$outside/build/two_ports" "$made/two_ports"
+  run_example "installed, by CMake"
+  newer=${version%%.*}.$(($(echo "$version" | cut -d . -f 2) + 1))
+  mkdir "$outside/newer"
+  cat > "$outside/newer/CMakeLists.txt" << END
+cmake_minimum_required(VERSION 3.13)
+project(newer NONE)
+find_package(arinduleu $newer REQUIRED)
+END
+  if "${words[@]}" -S "$outside/newer" -B "$outside/newer/build" > "$made/log" 2>&1; then
+    fail "CMake takes version $version for $newer"
+  fi
+  grep -qF "version: $version" "$made/log" || fail "CMake refuses version $newer, and not for the version"
+  pass "CMake does not take version $version for $newer"
+}
+
+installed() {
+  local outside=$made/outside
+  mkdir "$outside"
+  install_refuses "--prefix is missing"
+  install_refuses "unknown word '--prefixes'" --prefix "$made/none" --prefixes
+  install_refuses "--library wants a word" --prefix "$made/none" --library
+  install_refuses "--library is cargo or kit, not 'none'" --prefix "$made/none" --library none
+  install_refuses "--target goes with --library cargo" --prefix "$made/none" --library kit --target none
+  [ ! -e "$made/none" ] || fail "tools/install.sh refuses, and installs all the same"
+  DESTDIR="$outside/stage" quietly "tools/install.sh does not install under DESTDIR" tools/install.sh --prefix /usr/local
+  mv "$outside/stage/usr/local" "$outside/moved"
+  cmp "rust/target/$cargo_library" "$outside/moved/lib/libarinduleu.a" || fail "what is installed is not the library that cargo made"
+  if grep -rqF -e "$PWD" -e "$outside" --exclude='*.a' "$outside/moved"; then
+    fail "what is installed names a folder of this machine"
+  fi
+  pass "tools/install.sh installs under a prefix and DESTDIR, and refuses what it does not know"
+  cp examples/two_ports.c "$outside"
+  by_pkg_config "$outside"
+  by_cmake "$outside"
+}
+
 # The calls once more with rustc's own checks: a slice from a bad pointer and an overflow panic, and a panic never returns.
 with_checks() {
   local -x CARGO_PROFILE_RELEASE_DEBUG_ASSERTIONS=true CARGO_PROFILE_RELEASE_OVERFLOW_CHECKS=true
@@ -267,6 +346,7 @@ against_cargo() {
   else
     skip "the C++ tests of the cargo library" "no c++"
   fi
+  installed
   if have timeout; then with_checks; else skip "the C tests with rustc's checks" "no timeout"; fi
 }
 
