@@ -19,8 +19,8 @@ answer that is ignored is warned of. Builds and runs examples/two_ports.c and th
 programs in tests/c
   - with cc, against the library that cargo makes from rust/c;
   - with the clang of the Rattle kit, against the archive of `rt staticlib board`;
-then the example outside the tree with what tools/install.sh installed, by
-pkg-config and by CMake.
+then the snippet of the README, and the example outside the tree with what
+tools/install.sh installed, by pkg-config and by CMake.
 What this machine has no tools for is skipped. The line before the last has
 each part that was, with the reason.
 END
@@ -235,6 +235,31 @@ with_cxx() {
   run_calls "against the cargo library, c++"
 }
 
+# The code in the README's section for firmware that sets up rows, put into a function as it stands.
+readme_snippet() {
+  awk '
+    /^## / { inside = $0 == "## From firmware" }
+    inside && /^    / { block = block blank $0 "\n"; blank = ""; next }
+    inside && /^$/ { blank = blank "\n"; next }
+    { if (block ~ /arin_set_up\(/) printf "%s", block; block = blank = "" }
+  ' README.md > "$made/snippet"
+  [ -s "$made/snippet" ] || fail "the README has no snippet for firmware"
+  {
+    printf '#include <stdio.h>\n\n#include "arinduleu.h"\n\nint main(void)\n{\n'
+    cat "$made/snippet"
+    printf '    return 0;\n}\n'
+  } > "$made/snippet.c"
+}
+
+# snippet_as LANGUAGE STANDARD COMPILER
+snippet_as() {
+  quietly "the README's snippet is not $2" \
+    "$3" -x "$1" "-std=$2" "${warnings[@]}" -Iinclude "$made/snippet.c" -x none "rust/target/$cargo_library" -o "$made/pasted"
+  limited "$made/pasted" > "$made/out" || fail "the README's snippet ended badly, as $2"
+  grep -qxF "    $(cat "$made/out")" README.md || fail "the README does not say what its snippet prints: $(cat "$made/out")"
+  pass "the README's snippet is $2 and prints what is said"
+}
+
 # install_refuses TOLD WORD...: tools/install.sh with these words fails, and tells why.
 install_refuses() {
   local told=$1
@@ -341,8 +366,11 @@ against_cargo() {
   with_cc "cc -O2" -O2
   with_cc "cc -O0" -O0
   with_sanitizers
+  readme_snippet
+  snippet_as c c11 cc
   if have c++; then
     with_cxx
+    snippet_as c++ c++17 c++
   else
     skip "the C++ tests of the cargo library" "no c++"
   fi
