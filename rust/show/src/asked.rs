@@ -4,8 +4,9 @@ use arinduleu::rules::Profile;
 use arinduleu::steps::HalfWatts;
 
 pub const HELP: &str = "\
-usage: cargo run -- WATTS [--present WATTS] [--cable 3|5] [--up] [--pps] [--flags N]
-       cargo run -- --words WORD...
+usage: cargo run -p show -- WATTS [--present WATTS] [--cable 3|5] [--up] [--pps]
+                                  [--flags N]
+       cargo run -p show -- --words WORD...
 
 Prints the list of a port in words: each object with its volts and amperes, what
 holds at exactly 15.0 V, and a picture of volts against amperes. Without any word

@@ -4,7 +4,6 @@
 mod asked;
 mod figures;
 mod picture;
-mod refusals;
 mod supplies;
 #[cfg(test)]
 mod tests;

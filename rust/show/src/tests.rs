@@ -4,7 +4,7 @@ use arinduleu::rules::Profile;
 use arinduleu::steps::HalfWatts;
 
 use crate::asked::{asked, Asked};
-use crate::{figures, refusals, told};
+use crate::{figures, told};
 
 fn words(line: &str) -> Vec<String> {
     line.split_whitespace().map(String::from).collect()
@@ -42,7 +42,7 @@ fn readme_shows_what_is_printed() {
     let stored = include_str!("../stored/65_w_5_a_pps.txt");
     let indented: String =
         stored.lines().map(|line| format!("    {line}").trim_end().to_string() + "\n").collect();
-    assert!(readme.contains("cargo run -- 65 --cable 5 --pps\n"));
+    assert!(readme.contains("cargo run -p show -- 65 --cable 5 --pps\n"));
     assert!(readme.contains(&indented));
 }
 
@@ -161,16 +161,6 @@ fn the_library_refuses_in_a_sentence() {
     }
     let eight = format!("--words{}", " 0001912C".repeat(8));
     assert!(text_of(&eight).unwrap_err().starts_with("refused (10)"));
-}
-
-#[test]
-fn every_number_of_a_refusal_has_its_sentence() {
-    use arinduleu::verdicts::{self, Verdict};
-    let told = |number| refusals::sentence(Verdict { number, place: 0 });
-    assert_eq!(told(verdicts::ROWS_NOT_SOUND), "the rows are not sound");
-    for number in (1..=37).filter(|n| ![8, 26, 27, 28, 29].contains(n)) {
-        assert_ne!(told(number), told(99), "{number}");
-    }
 }
 
 #[test]

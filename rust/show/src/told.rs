@@ -8,16 +8,14 @@ use arinduleu::rules::{self, Profile};
 
 use crate::figures;
 use crate::picture::picture;
-use crate::refusals::sentence;
 use crate::supplies::{supply, Limit, Range, Supply};
 
 /// The list that the library builds for a port.
 pub fn port(profile: Profile) -> Result<String, String> {
-    let listing = rules::build(profile);
-    if listing.verdict.number != 0 {
-        return Err(format!("refused ({}): {}", listing.verdict.number, sentence(listing.verdict)));
-    }
-    shown(&port_in_words(profile), listing.list)
+    let list = rules::build(profile)
+        .ok()
+        .map_err(|refusal| format!("refused ({}): {}", refusal.number(), refusal.text()))?;
+    shown(&port_in_words(profile), list)
 }
 
 /// A list that is given word by word, where its shape passes.
@@ -46,14 +44,13 @@ fn port_in_words(profile: Profile) -> String {
 
 fn shown(whose: &str, list: Words) -> Result<String, String> {
     let reading = lists::read(list);
-    let verdict = reading.verdict;
-    if verdict.number != 0 {
-        let refused = format!("refused ({})", verdict.number);
-        return Err(match verdict.place {
-            0 => format!("{refused}: {}", sentence(verdict)),
-            place => {
+    if let Err(refusal) = reading.verdict.ok() {
+        let refused = format!("refused ({})", refusal.number());
+        return Err(match refusal.place() {
+            None => format!("{refused}: {}", refusal.text()),
+            Some(place) => {
                 let word = list.words[usize::from(place) - 1];
-                format!("{refused} at word {place}, {word:08X}: {}", sentence(verdict))
+                format!("{refused} at word {place}, {word:08X}: {}", refusal.text())
             }
         });
     }
