@@ -166,7 +166,7 @@ impl<'a> Reader<'a> {
     fn mark(&self) -> &'static str {
         let is_comment = |l: &&str| l.trim_start().starts_with("//");
         match self.rest.lines().find(|l| !is_comment(l)) {
-            Some(line) if line.is_empty() => "//",
+            Some("") => "//",
             _ => "///",
         }
     }

@@ -129,7 +129,7 @@ pub(crate) fn between(low: HalfWatts, m: HalfWatts, high: HalfWatts) -> bool
     if low.0 < m.0 { m.0 < high.0 } else { false }
 }
 
-// The two ranges of the port maximum in which a programmable supply may offer more than what is built.
+// For 9 V and for 15 V there is a range of the port maximum in which a programmable supply may offer more than what is built.
 fn may_exceed(max: HalfWatts, volts: u16) -> bool
     ensures { λ r. ⌜ r ≡ mayExceed (max .0) volts ⌝ }
 {

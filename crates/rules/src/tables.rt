@@ -41,7 +41,7 @@ pub(crate) const RAILS: [Rail; 4] = [
 // The port maximum that a port with AVS exceeds.
 pub(crate) const AVS_ABOVE: HalfWatts = HalfWatts(54);
 
-// The port maximum that a port exceeds whose AVS goes past 15 V; below that the second current is 0.
+// The port maximum that a port exceeds whose AVS goes past 15 V; for any other the second current is 0.
 pub(crate) const AVS_PAST_15_V_ABOVE: HalfWatts = HalfWatts(90);
 
 // The programmable supplies, from the lowest up. No port reaches 201 half watts, so the last row has no end.

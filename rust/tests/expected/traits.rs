@@ -72,10 +72,10 @@ fn verdicts_are_ordered_by_number_and_then_by_place() {
         verdict(14, 3),
         verdict(15, 1),
     ];
-    assert!(sorted.is_sorted());
+    assert!(sorted.windows(2).all(|w| w[0] < w[1]));
     let refusals: Vec<Refusal> = sorted.iter().filter_map(|v| v.ok().err()).collect();
     assert_eq!(refusals.len(), 4);
-    assert!(refusals.is_sorted());
+    assert!(refusals.windows(2).all(|w| w[0] < w[1]));
 }
 
 /// Keys of a hashed and of a sorted collection.
