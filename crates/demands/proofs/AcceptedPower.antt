@@ -1,6 +1,5 @@
--- The power of an accepted request is at most the P that its list was offered at, so what a port holds stays within 15 .. P (01,
--- "Ports that share"). A built current is the quotient of P rounded down, so voltage times current never passes P; a PPS request
--- is cut to P.
+-- Proves the claims of specs/RuleLists.antt on the power of a request: a built current is the quotient of P rounded down, so voltage times
+-- current never passes P; a PPS request is cut to P.
 -- Assumes nothing.
 use mathlib.Core.Path.{_≡_, refl, sym, ap, _∙_, subst}
 use mathlib.Core.Bool.{Bool, true, false, cond, and-eq-true-iff}
@@ -30,12 +29,13 @@ use Rattle.requests.specs.Limits.{voltsOf, operatingOf, advertisedAt, inRange, 
 use Rattle.requests.specs.Answering.{answerOf}
 use Rattle.requests.proofs.Accepted.{accepted}
 use Rattle.requests.proofs.AvsLimits.{limit-below, limit-above, limit-at}
-use Rattle.ports.specs.declared.Row.{Row}
 use Rattle.ports.specs.RuleLists.{ruleProfile, ruleList}
-use Rattle.ports.specs.Requests.{halfWattsFor, cutFor, powerIn, powerOf, heldFor, newHeld}
+use Rattle.ports.specs.Requests.{halfWattsFor, cutFor, powerIn, powerOf, heldFor}
 use Rattle.rules.proofs.Slots.{slotGood}
 use Rattle.rules.proofs.BuiltPasses.{good, known}
-use Rattle.ports.proofs.RuleLists.{Offerable, rule-profile-passes, rule-list-is}
+use Rattle.ports.proofs.RuleLists as there
+use Rattle.demands.specs.RuleLists.{HeldFrom15, AcceptedPower, HeldToP}
+use Rattle.demands.proofs.RuleLists.{offerable}
 
 -- ---- voltage times current
 
@@ -58,8 +58,7 @@ top-to-20-V high = go (eqb (high .0) 0) where
   go true = omega arith
   go false = omega arith
 
--- "Below 15.0 V the first current limits, above it the second; at 15.0 V the larger of the two": whichever limits, it does so
--- within its own voltage
+-- whichever of the two currents limits, it does so within its own voltage
 avs-power : (mv ma first second q : ℕ) → mv ≤ 20000 → ma ≤ avsLimit mv (first * 10) (second * 10)
     → first * 15 ≤ 50 * q → second * 20 ≤ 50 * q → upOf (mv * ma) 500000 ≤ q
 avs-power mv ma first second q to a f s = go (ltb mv 15000) refl (ltb 15000 mv) refl (leb second first) refl where
@@ -85,7 +84,7 @@ module _ (p : Profile) (down : p .rounding ≡ 0) where
   abbrev P : ℕ
   P = p .present .0
 
-  -- "The exact quotient in 10 mA is 50 P / V with V in volts", rounded down or cut to less
+  -- the built current is 50 P / V in 10 mA, rounded down, or cut to less
   current-within : (volts : ℕ) → builtCurrent p volts * volts ≤ 50 * P
   unfolding builtCurrent
   current-within volts =
@@ -130,21 +129,17 @@ module _ (p : Profile) (down : p .rounding ≡ 0) where
 
 -- ---- a row
 
--- "An accepted request sets held to the larger of 15 and its power": 15 ≤ held ..
-pub held-from-15 : (y : Row) (w : ℕ) → 15 ≤ newHeld y w
+pub held-from-15 : HeldFrom15
 unfolding heldFor
 held-from-15 y w = le-max-left 15 (powerOf (ruleList y) (y .present .0) w)
 
-module _ (y : Row) (o : Offerable y) (w : ℕ) (e : answerOf (ruleList y) w ≡ success) where
-  -- "A request is judged on the list of its row's stored P": an accepted one has no more power than that P
-  pub accepted-power : powerOf (ruleList y) (y .present .0) w ≤ y .present .0
-  unfolding ruleProfile
-  accepted-power =
-      let q = rule-list-is y o in
-      subst (λ (l : Words). powerOf l (y .present .0) w ≤ y .present .0) (sym q)
-      (built-power (ruleProfile y) refl (rule-profile-passes y o) w (sym (ap (λ (l : Words). answerOf l w) q) ∙ e))
+pub accepted-power : AcceptedPower
+unfolding ruleProfile
+accepted-power y o w e =
+    let q = there.rule-list-is y (offerable y o) in
+    subst (λ (l : Words). powerOf l (y .present .0) w ≤ y .present .0) (sym q)
+    (built-power (ruleProfile y) refl (there.rule-profile-passes y (offerable y o)) w (sym (ap (λ (l : Words). answerOf l w) q) ∙ e))
 
-  -- .. held ≤ P
-  pub held-to-P : 15 ≤ y .present .0 → newHeld y w ≤ y .present .0
-  unfolding heldFor
-  held-to-P h = max-le h accepted-power
+pub held-to-P : HeldToP
+unfolding heldFor
+held-to-P y o w e h = max-le h (accepted-power y o w e)

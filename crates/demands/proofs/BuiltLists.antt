@@ -8,7 +8,7 @@ use borrow.Author.Tests.{lt-ltb}
 use Rattle.verdicts.proofs.First.{NoneApply}
 use Rattle.lists.specs.declared.Words.{Words}
 use Rattle.lists.specs.Shape.{shapeRefusals}
-use Rattle.lists.proofs.RoundTrips.{Words32}
+use Rattle.lists.proofs.RoundTrips as there
 use Rattle.rules.specs.declared.Profile.{Profile}
 use Rattle.rules.specs.Profiles.{buildRefusals}
 use Rattle.rules.specs.Tables.{baseSlots}
@@ -18,6 +18,7 @@ use Rattle.rules.proofs.Places.{base-counted}
 use Rattle.ports.specs.declared.Row.{Row}
 use Rattle.ports.specs.RuleLists.{ruleProfile, ruleList}
 use Rattle.ports.proofs.RuleLists.{Offerable, rule-profile-passes, rule-list-is}
+use Rattle.demands.specs.RoundTrips.{Words32}
 
 pub record BuiltFor (m : ℕ) (w : Words) : Type 0 where
   pub profile : Profile
@@ -25,12 +26,12 @@ pub record BuiltFor (m : ℕ) (w : Words) : Type 0 where
   pub passes : NoneApply (buildRefusals profile)
   pub list-is : w ≡ builtWords profile
 
--- "A row's list, its rule list, is the one built for its M, P and cable"
+-- the rule list of a row is built for its M
 pub rule-list-for : (y : Row) → Offerable y → BuiltFor (y .max .0) (ruleList y)
 unfolding ruleProfile
 rule-list-for y o = record { profile = ruleProfile y; max-is = refl; passes = rule-profile-passes y o; list-is = rule-list-is y o }
 
--- "a fixed table of four rows: .. 5 V (0), 9 V (30)"
+-- above M 30 the tables have 5 V and 9 V
 two-slots : (m : ℕ) → 30 < m → 1 < length (baseSlots m)
 unfolding baseSlots
 two-slots m h = rw (lt-ltb 0 m (omega arith), lt-ltb 30 m h) (omega arith)
@@ -40,7 +41,7 @@ module _ (m : ℕ) (w : Words) (b : BuiltFor m w) where
   for-shaped = subst (λ (x : Words). NoneApply (shapeRefusals x)) (sym (b .list-is)) (shape-clear (b .profile) (b .passes))
 
   pub for-typed : Words32 w
-  for-typed = subst Words32 (sym (b .list-is)) (built-fits (b .profile) (b .passes))
+  for-typed = record { fits = subst there.Words32 (sym (b .list-is)) (built-fits (b .profile) (b .passes)) .fits }
 
   pub for-past-5-V : 30 < m → 1 < w .count
   for-past-5-V h =

@@ -1,4 +1,4 @@
--- Demand 3: what holds after every run, of the figures that calls and answers alone give (design, "History").
+-- Proves the claim of specs/AfterRun.antt: what is known and what the rows hold agree, so the answers follow from what is known.
 -- Assumes nothing.
 use mathlib.Core.Path.{_≡_, refl, sym, ap, _∙_, subst}
 use mathlib.Core.Bool.{Bool, true, false, not}
@@ -30,54 +30,10 @@ use Rattle.ports.proofs.Passing.{sum-fits, port-low, port-high, port-at, use-po
 use Rattle.ports.proofs.Judged.{clear}
 use Rattle.ports.proofs.Asking.{accepts}
 use Rattle.board.specs.Promises.{SharesAttach, SharesAdvertise, SharesRequest, SharesDetach, SharesRemaining}
-use Rattle.demands.proofs.History.{Known, figures, smaller, newFigure, maxOf, wantedOf, known, listFor, IsAttached, CanAttach, Event, Run}
+use Rattle.demands.specs.Figures.{Known, figures, smaller, newFigure, maxOf, wantedOf, known, listFor, IsAttached, CanAttach}
+use Rattle.demands.specs.AfterRun.{AfterRun, Demand3}
 use Rattle.demands.proofs.SharingRefusals.{attach-refusals, advertise-refusals, request-refusals, detach-refusals}
 use Rattle.demands.proofs.Kept.{Kept, run-kept, same-together, same-left, same-present, same-held, same-cable}
-
--- What is to hold of the rows ys after a run, where h is what is known from its calls and answers, start what was lent to set-up, and
--- every next call is one that its contract allows.
-pub record AfterRun (capacity : ℕ) (start : List Row) (h : ℕ → Known) (ys : List Row) : Type 0 where
-  -- "the figures together never pass the capacity"
-  pub within-capacity : together (figures h) (length start) ≤ capacity
-  -- "the next list that attach or advertise returns is the rule list for M at the smaller of M and capacity less the other figures":
-  -- attach is accepted exactly for an empty port and a cable of 3 or 5 A, advertise exactly for an attached port
-  pub attach-list : (port cable : ℕ) (r : Listing) (zs : List Row) → SharesAttach ys capacity port cable r zs
-      → CanAttach (length start) h port cable
-      → r ≡ record {
-        verdict = success;
-        list = listFor (maxOf start (port - 1)) (wantedOf start (port - 1)) cable (smaller capacity (length start) (maxOf start) h port);
-      }
-  pub attach-only : (port cable : ℕ) (r : Listing) (zs : List Row) → SharesAttach ys capacity port cable r zs
-      → r .verdict ≡ success → CanAttach (length start) h port cable
-  pub advertise-list : (port : ℕ) (r : Listing) (zs : List Row) → SharesAdvertise ys capacity port r zs → IsAttached (length start) h port
-      → r ≡ record {
-        verdict = success;
-        list =
-            listFor (maxOf start (port - 1)) (wantedOf start (port - 1)) (h (port - 1) .cable)
-            (smaller capacity (length start) (maxOf start) h port);
-      }
-  pub advertise-only : (port : ℕ) (r : Listing) (zs : List Row) → SharesAdvertise ys capacity port r zs
-      → r .verdict ≡ success → IsAttached (length start) h port
-  -- "a request that the port's current list allows is refused with 36 exactly when its new figure exceeds capacity less the others,
-  -- and accepted otherwise"
-  pub refused-36 : (port word : ℕ) (r : Verdict) (zs : List Row) → SharesRequest ys capacity port word r zs → IsAttached (length start) h port
-      → answerOf (h (port - 1) .list) word ≡ success
-      → r ≡ verdict 36 port ↔ capacity - together (besides (port - 1) (figures h)) (length start) < newFigure h port word
-  pub accepted-else : (port word : ℕ) (r : Verdict) (zs : List Row) → SharesRequest ys capacity port word r zs → IsAttached (length start) h port
-      → answerOf (h (port - 1) .list) word ≡ success
-      → r ≡ success ↔ newFigure h port word ≤ capacity - together (besides (port - 1) (figures h)) (length start)
-  -- "one the list does not allow gets the list's own refusal"
-  pub own-refusal : (port word : ℕ) (r : Verdict) (zs : List Row) → SharesRequest ys capacity port word r zs → IsAttached (length start) h port
-      → (answerOf (h (port - 1) .list) word ≡ success → ⊥) → r ≡ answerOf (h (port - 1) .list) word
-  -- a request is accepted, and a port detached, only where the port is attached
-  pub request-only : (port word : ℕ) (r : Verdict) (zs : List Row) → SharesRequest ys capacity port word r zs
-      → r ≡ success → IsAttached (length start) h port
-  pub detach-only : (port : ℕ) (r : Verdict) (zs : List Row) → SharesDetach ys capacity port r zs → r ≡ success → IsAttached (length start) h port
-  -- an attached port can be detached
-  pub detach-accepted : (port : ℕ) (r : Verdict) (zs : List Row) → SharesDetach ys capacity port r zs → IsAttached (length start) h port → r ≡ success
-  -- "remaining power is capacity less all the figures"
-  pub remaining-power : (r : RemainingPower) → SharesRemaining ys capacity r
-      → r ≡ record { verdict = success; power = halfWatts (capacity - together (figures h) (length start)) }
 
 -- ---- by what is known, no refusal before the port's own applies
 
@@ -284,7 +240,5 @@ module _ (capacity : ℕ) (start : List Row) (h : ℕ → Known) (ys : List Row)
     remaining-power = remains;
   }
 
--- Demand 3, for every run
-pub demand-3 : (capacity : ℕ) (start : List Row) (es : List Event) (ys : List Row) → Run capacity start es ys
-    → AfterRun capacity start (known capacity start es) ys
+pub demand-3 : Demand3
 demand-3 capacity start es ys run = after capacity start (known capacity start es) ys (run-kept capacity start es ys run)

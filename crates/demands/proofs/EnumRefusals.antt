@@ -1,10 +1,9 @@
--- Demand 1 for the calls whose answer is an enum: what the answer says (its number and its values) is a refusal exactly where that refusal
--- applies, and on a refusal all else is zero. Each of these calls has one refusal.
+-- Proves the claims of specs/EnumRefusals.antt.
 -- Assumes nothing.
 use mathlib.Core.Path.{_≡_, refl, sym, _∙_, subst}
 use mathlib.Core.Bool.{Bool, true, false, true≢false, cond}
 use mathlib.Core.Logic.{_↔_, _⊎_, inl, inr, ⊎-elim}
-use Prim.Native.Nat.{ℕ, _-_, _*_, _<_}
+use Prim.Native.Nat.{ℕ, _-_, _<_}
 use native.Mathlib.Omega.{arith}
 use lib.ListN.{getD}
 use Rattle.steps.specs.declared.Mv20.{Mv20}
@@ -22,7 +21,6 @@ use Rattle.steps.specs.declared.InMa50.{InMa50}
 use Rattle.steps.specs.Ranges.{within}
 use Rattle.steps.specs.Measure.{convertedOf, mv20Says, mv25Says, mv50Says, mv100Says, ma10Says, ma50Says}
 use Rattle.steps.proofs.ConversionLaws.{exactly-only, lost-only, given-or-refused}
-use Rattle.objects.specs.declared.Object.{Object}
 use Rattle.objects.specs.declared.Object.the-variants.{Fixed, Pps, Avs}
 use Rattle.objects.specs.declared.Decoded.{Decoded}
 use Rattle.objects.specs.declared.Decoded.the-variants.{Known, NotAllowed}
@@ -35,30 +33,20 @@ use Rattle.objects.specs.Encode.{fieldsOf, encodeOf, encodedSays}
 use Rattle.objects.proofs.Numbers.{decode-refuses, encode-refuses}
 use Rattle.objects.proofs.Saying.{word-says, object-says}
 use Rattle.lists.specs.declared.Words.{Words}
-use Rattle.rules.specs.declared.Profile.{Profile}
 use Rattle.rules.specs.declared.Placed.{Placed}
 use Rattle.rules.specs.declared.Placed.the-variants as placed
 use Rattle.rules.specs.Building.{builtOf}
 use Rattle.rules.specs.Placing.{placedSays, placedIn}
 use Rattle.rules.proofs.Saying.{place-says}
-use Rattle.flat.specs.declared.FlatObject.{FlatObject}
 use Rattle.flat.specs.declared.Raised.{Raised}
 use Rattle.flat.specs.declared.Raised.the-variants as raised
 use Rattle.flat.specs.Flat.{raisedOf, raisedSays}
 use Rattle.flat.proofs.BothWays.{raise-refuses}
 use Rattle.flat.proofs.Saying.{flat-says}
-use Rattle.demands.proofs.Contracts.{Mv20ToMv25Answers, Mv20ToMv50Answers, Mv20ToMv100Answers, Mv25ToMv20Answers, Mv25ToMv50Answers, Mv25ToMv100Answers, Mv50ToMv20Answers, Mv50ToMv25Answers, Mv50ToMv100Answers, Mv100ToMv20Answers, Mv100ToMv25Answers, Mv100ToMv50Answers, Ma10ToMa50Answers, Ma50ToMa10Answers}
-use Rattle.demands.proofs.Contracts.{DecodeAnswers, EncodeAnswers, FixedWordAnswers, PpsWordAnswers, AvsWordAnswers, WordAtAnswers}
-use Rattle.demands.proofs.FlatContracts.{RaiseAnswers}
+use Rattle.demands.specs.CallContracts.{Mv20ToMv25Answers, Mv20ToMv50Answers, Mv20ToMv100Answers, Mv25ToMv20Answers, Mv25ToMv50Answers, Mv25ToMv100Answers, Mv50ToMv20Answers, Mv50ToMv25Answers, Mv50ToMv100Answers, Mv100ToMv20Answers, Mv100ToMv25Answers, Mv100ToMv50Answers, Ma10ToMa50Answers, Ma50ToMa10Answers}
+use Rattle.demands.specs.EnumRefusals.{Converts, Conversions, OneRefusal, Decode12, Encode7, FixedWord7, PpsWord7, AvsWord7, Raise12, WordAt20}
 
--- ---- steps: 01 has no number for this refusal
-
--- a figure in steps of the size `from`, asked for in steps of the size `to`
-pub record Converts (figure from to : ℕ) (said : Bool × ℕ) : Type 0 where
-  -- refused exactly where no figure of 16 bits has the same measure
-  pub refuses : said .0 ≡ true ↔ ((m : ℕ) → m * to ≡ figure * from → m < 65536 → ⊥)
-  pub given : said .0 ≡ false → (said .1 * to ≡ figure * from) × (said .1 < 65536)
-  pub empty : said .0 ≡ true → said .1 ≡ 0
+-- ---- steps
 
 converts : (n a b : ℕ) → 0 < b → (said : Bool × ℕ) → said ≡ convertedOf n a b → Converts n a b said
 converts n a b h said e = subst (Converts n a b) (sym e) (⊎-elim exact refused (given-or-refused n a b)) where
@@ -120,13 +108,25 @@ ma10-to-ma50-refuses v r e = converts (v .0) 10 50 (omega arith) (ma50Says r) e
 pub ma50-to-ma10-refuses : (v : Ma50) (r : InMa10) → Ma50ToMa10Answers v r → Converts (v .0) 50 10 (ma10Says r)
 ma50-to-ma10-refuses v r e = converts (v .0) 50 10 (omega arith) (ma10Says r) e
 
--- ---- one number
+pub conversions : Conversions
+conversions = record {
+  mv20-to-mv25 = mv20-to-mv25-refuses;
+  mv20-to-mv50 = mv20-to-mv50-refuses;
+  mv20-to-mv100 = mv20-to-mv100-refuses;
+  mv25-to-mv20 = mv25-to-mv20-refuses;
+  mv25-to-mv50 = mv25-to-mv50-refuses;
+  mv25-to-mv100 = mv25-to-mv100-refuses;
+  mv50-to-mv20 = mv50-to-mv20-refuses;
+  mv50-to-mv25 = mv50-to-mv25-refuses;
+  mv50-to-mv100 = mv50-to-mv100-refuses;
+  mv100-to-mv20 = mv100-to-mv20-refuses;
+  mv100-to-mv25 = mv100-to-mv25-refuses;
+  mv100-to-mv50 = mv100-to-mv50-refuses;
+  ma10-to-ma50 = ma10-to-ma50-refuses;
+  ma50-to-ma10 = ma50-to-ma10-refuses;
+}
 
--- n exactly where its refusal applies, and 0 exactly where it does not; on a refusal the value is zero
-pub record OneRefusal {A : Type 0} (none : A) (n : ℕ) (Applies : Type 0) (said : ℕ × A) : Type 0 where
-  pub refuses : said .0 ≡ n ↔ Applies
-  pub accepts : said .0 ≡ 0 ↔ (Applies → ⊥)
-  pub empty : (said .0 ≡ 0 → ⊥) → said .1 ≡ none
+-- ---- one number
 
 -- an answer that is accepted, or refused with that number and no value
 abbrev TwoWays : {A : Type 0} → A → ℕ → ℕ × A → Type 0
@@ -150,29 +150,23 @@ encoded-two : (e : Encoded) → TwoWays 0 7 (encodedSays e)
 encoded-two (Word w) = inl refl
 encoded-two TooWide = inr (refl, refl)
 
--- 12 exactly for the kinds 1101b and 1111b
-pub decode-12 : (w : ℕ) (r : Decoded) → DecodeAnswers w r
-    → OneRefusal zeroObject 12 ((bits w 31 30 ≡ 3) × ((bits w 29 28 ≡ 1) ⊎ (bits w 29 28 ≡ 3))) (decodedSays r)
+pub decode-12 : Decode12
 decode-12 w r e =
     subst (OneRefusal zeroObject 12 ((bits w 31 30 ≡ 3) × ((bits w 29 28 ≡ 1) ⊎ (bits w 29 28 ≡ 3)))) (sym (e ∙ word-says w))
     (one-refusal zeroObject 12 _ (decodedSays (decodeOf w)) (λ z. omega (arith, z)) (decoded-two (decodeOf w)) (decode-refuses w))
 
--- 7 exactly where a field is too wide for its bits
-pub encode-7 : (o : Object) (r : Encoded) → EncodeAnswers o r → OneRefusal 0 7 (allFit (fieldsOf o) ≡ false) (encodedSays r)
+pub encode-7 : Encode7
 encode-7 o r e =
     subst (OneRefusal 0 7 (allFit (fieldsOf o) ≡ false)) (sym (e ∙ object-says o))
     (one-refusal 0 7 _ (encodedSays (encodeOf o)) (λ z. omega (arith, z)) (encoded-two (encodeOf o)) (encode-refuses o))
 
-pub fixed-word-7 : (flags peak : ℕ) (volts : Mv50) (current : Ma10) (r : Encoded) → FixedWordAnswers flags peak volts current r
-    → OneRefusal 0 7 (allFit (fieldsOf (Fixed flags peak volts current)) ≡ false) (encodedSays r)
+pub fixed-word-7 : FixedWord7
 fixed-word-7 flags peak volts current r e = encode-7 (Fixed flags peak volts current) r e
 
-pub pps-word-7 : (limited : ℕ) (max min : Mv100) (current : Ma50) (r : Encoded) → PpsWordAnswers limited max min current r
-    → OneRefusal 0 7 (allFit (fieldsOf (Pps limited max min current)) ≡ false) (encodedSays r)
+pub pps-word-7 : PpsWord7
 pps-word-7 limited max min current r e = encode-7 (Pps limited max min current) r e
 
-pub avs-word-7 : (peak : ℕ) (low high : Ma10) (r : Encoded) → AvsWordAnswers peak low high r
-    → OneRefusal 0 7 (allFit (fieldsOf (Avs peak low high)) ≡ false) (encodedSays r)
+pub avs-word-7 : AvsWord7
 avs-word-7 peak low high r e = encode-7 (Avs peak low high) r e
 
 -- ---- flat
@@ -181,8 +175,7 @@ raised-two : (r : Raised) → TwoWays zeroObject 12 (raisedSays r)
 raised-two (raised.Known o) = inl refl
 raised-two raised.Unknown = inr (refl, refl)
 
--- 12 exactly for a kind number above 4
-pub raise-12 : (x : FlatObject) (r : Raised) → RaiseAnswers x r → OneRefusal zeroObject 12 (4 < x .kind) (raisedSays r)
+pub raise-12 : Raise12
 raise-12 x r e =
     subst (OneRefusal zeroObject 12 (4 < x .kind)) (sym (e ∙ flat-says x))
     (one-refusal zeroObject 12 _ (raisedSays (raisedOf x)) (λ z. omega (arith, z)) (raised-two (raisedOf x)) (raise-refuses x))
@@ -200,9 +193,7 @@ outside l place = go (within 1 (l .count) place) (getD (l .words) (place - 1) 0)
   go true w = ((λ e. absurd (omega (arith, e))), (λ e. absurd (true≢false e)))
   go false w = ((λ e. refl), (λ e. refl))
 
--- 20 exactly where the list that is built has no such place
-pub word-at-20 : (p : Profile) (place : ℕ) (r : Placed) → WordAtAnswers p place r
-    → OneRefusal 0 20 (within 1 (builtOf p .list .count) place ≡ false) (placedSays r)
+pub word-at-20 : WordAt20
 word-at-20 p place r e =
     let l = builtOf p .list in
     subst (OneRefusal 0 20 (within 1 (l .count) place ≡ false)) (sym (e ∙ place-says l place))

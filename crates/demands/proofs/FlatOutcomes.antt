@@ -1,12 +1,13 @@
--- No second outcome (01, "What the contracts settle"), for the calls over flat objects and the calls under C names.
+-- Proves the claims of specs/FlatOutcomes.antt.
 -- Assumes nothing.
 use mathlib.Core.Path.{sym, _∙_}
 use Rattle.lists.specs.declared.Words.{Words}
 use Rattle.rules.specs.declared.Profile.{Profile}
 use Rattle.flat.proofs.Saying.{raised-one}
-use Rattle.demands.proofs.OneOutcome.{Settled}
-use Rattle.demands.proofs.FlatContracts.{FlattenAnswers, RaiseAnswers, FlatReadAnswers, FlatWriteAnswers}
-use Rattle.demands.proofs.FlatContracts.{ArinDefaultAnswers, ArinBuildAnswers, ArinCheckAnswers, ArinShapeAnswers, ArinReadAnswers, ArinWriteAnswers, ArinAnswerAnswers}
+use Rattle.demands.specs.OneOutcome.{Settled}
+use Rattle.demands.specs.FlatOutcomes.{NoSecondFlatOutcome}
+use Rattle.demands.specs.FlatContracts.{FlattenAnswers, RaiseAnswers, FlatReadAnswers, FlatWriteAnswers}
+use Rattle.demands.specs.FlatContracts.{ArinDefaultAnswers, ArinBuildAnswers, ArinCheckAnswers, ArinShapeAnswers, ArinReadAnswers, ArinWriteAnswers, ArinAnswerAnswers}
 
 -- ---- flat
 
@@ -44,3 +45,20 @@ arin-write-settles o r s e f = e ∙ sym f
 
 pub arin-answer-settles : (l : Words) → Settled (ArinAnswerAnswers l)
 arin-answer-settles l w r s e f = e ∙ sym f
+
+-- ---- all of them
+
+pub no-second-flat-outcome : NoSecondFlatOutcome
+no-second-flat-outcome = record {
+  flatten = flatten-settles;
+  raise = raise-settles;
+  flat-read = flat-read-settles;
+  flat-write = flat-write-settles;
+  arin-default = arin-default-settles;
+  arin-build = arin-build-settles;
+  arin-check = arin-check-settles;
+  arin-shape = arin-shape-settles;
+  arin-read = arin-read-settles;
+  arin-write = arin-write-settles;
+  arin-answer = arin-answer-settles;
+}

@@ -1,45 +1,30 @@
--- Demand 1, refusals, for the calls over flat objects and the calls under C names: number n with its place is given exactly when
--- refusal n applies there and none before it does; on a refusal everything else is zero.
+-- Proves the claims of specs/FlatRefusals.antt, from those of specs/Refusals.antt.
 -- Assumes nothing.
-use mathlib.Core.Path.{_≡_, refl, sym, ap, _∙_, subst}
-use Prim.Native.Nat.{ℕ}
+use mathlib.Core.Path.{refl, sym, ap, _∙_, subst}
 use Rattle.verdicts.specs.declared.Verdict.{Verdict}
-use Rattle.verdicts.specs.Refusals.{success}
 use Rattle.verdicts.proofs.First.{exactly}
-use Rattle.lists.specs.declared.Words.{Words}
 use Rattle.lists.specs.declared.Listing.{Listing}
 use Rattle.lists.specs.Shape.{shapeRefusals}
 use Rattle.lists.specs.Reading.{readOf}
-use Rattle.lists.specs.Writing.{noWords}
 use Rattle.lists.proofs.Writings.{write-numbered, write-verdict, write-empty}
-use Rattle.rules.specs.declared.Profile.{Profile}
-use Rattle.rules.specs.declared.Profiled.{Profiled}
-use Rattle.rules.specs.Profiles.{halfWatts, noProfile, defaultRefusals, buildRefusals}
-use Rattle.rules.specs.Checking.{checkRefusals}
-use Rattle.requests.specs.Answering.{answerRefusals}
-use Rattle.flat.specs.declared.FlatObjects.{FlatObjects}
+use Rattle.rules.specs.Profiles.{halfWatts}
 use Rattle.flat.specs.declared.FlatReading.{FlatReading}
 use Rattle.flat.specs.Writing.{encodedFlatAt, flatWriteRefusals}
-use Rattle.flat.specs.Kept.{noFlat}
 use Rattle.flat.proofs.Readings.{flat-read-verdict, flat-read-empty}
-use Rattle.demands.proofs.Refusals.{Answers, answers, shape-refusals, read-refusals, default-refusals, build-refusals, check-refusals, answer-refusals}
-use Rattle.demands.proofs.FlatContracts.{FlatReadAnswers, FlatWriteAnswers}
-use Rattle.demands.proofs.FlatContracts.{ArinDefaultAnswers, ArinBuildAnswers, ArinCheckAnswers, ArinShapeAnswers, ArinReadAnswers, ArinWriteAnswers, ArinAnswerAnswers}
+use Rattle.demands.specs.Refusals.{Answers}
+use Rattle.demands.specs.FlatRefusals.{FlatReadRefusals, FlatWriteRefusals, ArinDefaultRefusals, ArinBuildRefusals, ArinCheckRefusals, ArinShapeRefusals, ArinReadRefusals, ArinWriteRefusals, ArinAnswerRefusals}
+use Rattle.demands.proofs.Refusals.{answers, shape-refusals, read-refusals, default-refusals, build-refusals, check-refusals, answer-refusals}
 
 -- ---- flat
 
--- reading refuses as the shape check does, and gives an empty list with it
-pub flat-read-refusals : (l : Words) (r : FlatReading) → FlatReadAnswers l r
-    → Answers (r .verdict) (shapeRefusals l) × ((r .verdict ≡ success → ⊥) → r .list ≡ noFlat)
+pub flat-read-refusals : FlatReadRefusals
 flat-read-refusals l r e =
     let v = ap (λ (x : FlatReading). x .verdict) e in (
       subst (λ (u : Verdict). Answers u (shapeRefusals l)) (sym (v ∙ flat-read-verdict l)) (read-refusals l (readOf l) refl .0),
       λ f. ap (λ (x : FlatReading). x .list) e ∙ flat-read-empty l (λ z. f (v ∙ z)),
     )
 
--- 10, then 7, then what the shape of the words made refuses
-pub flat-write-refusals : (f : FlatObjects) (r : Listing) → FlatWriteAnswers f r
-    → Answers (r .verdict) (flatWriteRefusals f) × ((r .verdict ≡ success → ⊥) → r .list ≡ noWords)
+pub flat-write-refusals : FlatWriteRefusals
 flat-write-refusals f r e =
     let made = encodedFlatAt (f .places) in
     let v = ap (λ (x : Listing). x .verdict) e in (
@@ -49,27 +34,23 @@ flat-write-refusals f r e =
 
 -- ---- board, lists and requests
 
-pub arin-default-refusals : (m : ℕ) (r : Profiled) → ArinDefaultAnswers m r
-    → Answers (r .verdict) (defaultRefusals (halfWatts m)) × ((r .verdict ≡ success → ⊥) → r .profile ≡ noProfile)
+pub arin-default-refusals : ArinDefaultRefusals
 arin-default-refusals m r e = default-refusals (halfWatts m) r e
 
-pub arin-build-refusals : (p : Profile) (r : Listing) → ArinBuildAnswers p r
-    → Answers (r .verdict) (buildRefusals p) × ((r .verdict ≡ success → ⊥) → r .list ≡ noWords)
+pub arin-build-refusals : ArinBuildRefusals
 arin-build-refusals p r e = build-refusals p r e
 
-pub arin-check-refusals : (p : Profile) (l : Words) (r : Verdict) → ArinCheckAnswers p l r → Answers r (checkRefusals p l)
+pub arin-check-refusals : ArinCheckRefusals
 arin-check-refusals p l r e = check-refusals p l r e
 
-pub arin-shape-refusals : (l : Words) (r : Verdict) → ArinShapeAnswers l r → Answers r (shapeRefusals l)
+pub arin-shape-refusals : ArinShapeRefusals
 arin-shape-refusals l r e = shape-refusals l r e
 
-pub arin-read-refusals : (l : Words) (r : FlatReading) → ArinReadAnswers l r
-    → Answers (r .verdict) (shapeRefusals l) × ((r .verdict ≡ success → ⊥) → r .list ≡ noFlat)
+pub arin-read-refusals : ArinReadRefusals
 arin-read-refusals l r e = flat-read-refusals l r e
 
-pub arin-write-refusals : (f : FlatObjects) (r : Listing) → ArinWriteAnswers f r
-    → Answers (r .verdict) (flatWriteRefusals f) × ((r .verdict ≡ success → ⊥) → r .list ≡ noWords)
+pub arin-write-refusals : ArinWriteRefusals
 arin-write-refusals f r e = flat-write-refusals f r e
 
-pub arin-answer-refusals : (l : Words) (w : ℕ) (r : Verdict) → ArinAnswerAnswers l w r → Answers r (answerRefusals l w)
+pub arin-answer-refusals : ArinAnswerRefusals
 arin-answer-refusals l w r e = answer-refusals l w r e

@@ -24,8 +24,10 @@ use Rattle.ports.proofs.Sound.{sound-empty}
 use Rattle.ports.proofs.Sums.{same-figures, others-agree}
 use Rattle.ports.proofs.Passing.{table-passes, port-at, row-sound, use-port, in-use, set-up-numbered, attach-numbered, use-numbered, request-numbered}
 use Rattle.board.specs.Promises.{SharesAttach, SharesAdvertise, SharesRequest, SharesDetach}
-use Rattle.demands.proofs.SoundRows.{SoundRows, of-clear, to-clear, by-place, emptied-row, attach-keeps, advertise-keeps, request-keeps, detach-keeps, set-up-sounds}
-use Rattle.demands.proofs.History.{Known, empty, figures, smaller, changed, ifAccepted, newFigure, learnt, maxOf, wantedOf, known, Event, attached, advertised, requested, detached, remained, Step, SetUp, Run}
+use Rattle.demands.specs.SoundRows.{SoundRows}
+use Rattle.demands.specs.Runs.{Event, attached, advertised, requested, detached, remained, Step, SetUp, Run}
+use Rattle.demands.specs.Figures.{Known, empty, figures, smaller, changed, ifAccepted, newFigure, learnt, maxOf, wantedOf, known}
+use Rattle.demands.proofs.SoundRows.{of-clear, to-clear, by-place, emptied-row, attach-keeps, advertise-keeps, request-keeps, detach-keeps, set-up-sounds}
 
 -- ---- a row and what is known of its port
 

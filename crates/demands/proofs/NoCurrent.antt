@@ -1,5 +1,5 @@
--- A request that every list allows and every port can hold: 5 V, which every list has first, at no current. Its figure is 15, and every
--- attached port holds that already.
+-- The request for 5 V at no current (`noCurrent`): every list allows it and every port can hold it. Its figure is 15, and every attached port
+-- holds that already.
 -- Assumes nothing.
 use mathlib.Core.Path.{_≡_, refl, ap, _∙_}
 use mathlib.Core.Bool.{Bool, true, false, not, _&&_, false≢true}
@@ -27,10 +27,7 @@ use Rattle.requests.specs.Limits.{bitSet}
 use Rattle.requests.specs.Answering.{namedRefusals, answerRefusals, answerOf}
 use Rattle.requests.proofs.Answers.{position-good, answer-verdict}
 use Rattle.ports.specs.Requests.{powerIn, powerOf, heldFor}
-use Rattle.demands.proofs.MarkedCases.{fixed}
-
-abbrev pub noCurrent : ℕ
-noCurrent = fixed 1 0
+use Rattle.demands.specs.WrongLibraries.{noCurrent}
 
 abbrev is5V : Decoded → Bool
 is5V d = ofObject (ofFixed (λ v a. eqb (mv50 v) 5000)) d

@@ -1,11 +1,7 @@
--- The order of refusals where C hands in an object of no kind (01, "Refusal numbers": "10, 7, 11, then word by word 12, 13, 15, 16, 14, then
--- 17"): one table, one claim, by computation over the definition that the contract of `arin_write` cites.
+-- Proves the claim of specs/NoKindCases.antt.
 -- Assumes nothing.
-use mathlib.Core.Path.{_≡_, refl}
-use mathlib.Core.List.{List, [], _∷_, map}
-use Prim.Native.Nat.{ℕ}
-use Rattle.verdicts.specs.declared.Verdict.{Verdict}
-use Rattle.verdicts.specs.Refusals.{firstOf, eachPlace, verdict}
+use mathlib.Core.Path.{refl}
+use Rattle.verdicts.specs.Refusals.{firstOf, eachPlace}
 use Rattle.objects.specs.Bits.{bits}
 use Rattle.objects.specs.Decode.{decodeOf, reservedSet}
 use Rattle.objects.specs.Encode.{wordOf}
@@ -13,58 +9,9 @@ use Rattle.lists.specs.ObjectRules.{outOfBounds, over100W, mayFollow}
 use Rattle.lists.specs.Shape.{isFixed5V, hasFixed, avsDiffers}
 use Rattle.lists.specs.Seven.{sevenTo}
 use Rattle.lists.specs.Writing.{writtenFrom}
-use Rattle.flat.specs.declared.FlatObject.{FlatObject}
-use Rattle.flat.specs.Flat.{raisedOf, flatFixed, flatAvs, noMv50, noMv100, noMa10, noMa50, noMw250}
-use Rattle.flat.specs.Writing.{flatWriteOf}
+use Rattle.flat.specs.Flat.{raisedOf}
+use Rattle.demands.specs.NoKindCases.{WriteOrder}
 
--- fixed, by its flags, its voltage in 50 mV and its current in 10 mA
-abbrev fixed : ℕ → ℕ → ℕ → FlatObject
-fixed flags volts current = flatFixed flags 0 (record { 0 = volts }) (record { 0 = current })
-
--- AVS with a current for 9 to 15 V alone
-abbrev avs : ℕ → FlatObject
-avs low = flatAvs 0 (record { 0 = low }) noMa10
-
--- an object of this kind number, with flags that no object could have
-abbrev kind : ℕ → FlatObject
-kind n =
-    record { kind = n; flags = 255; peak = 0; limited = 0; volts = noMv50; max = noMv50; min = noMv50; power = noMw250; current = noMa10; max100 = noMv100; min100 = noMv100; current50 = noMa50; low = noMa10; high = noMa10 }
-
--- so many objects, and what `arin_write` has to answer
-pub data Case : Type 0 where
-  case : ℕ → List FlatObject → Verdict → Case
-
-abbrev pub given : Case → Verdict
-given (case n fs v) = flatWriteOf (record { places = fs; count = n }) .verdict
-
-abbrev pub said : Case → Verdict
-said (case n fs v) = v
-
-abbrev pub table : List Case
-table =
-    -- 10 comes first
-    case 0 (kind 5 ∷ []) (verdict 10 0)
-    ∷ case 8 (kind 5 ∷ []) (verdict 10 0)
-    -- then 7, of a known kind, wherever it stands
-    ∷ case 2 (kind 5 ∷ fixed 200 180 300 ∷ []) (verdict 7 2)
-    ∷ case 3 (fixed 0 100 300 ∷ kind 5 ∷ fixed 200 180 300 ∷ []) (verdict 7 3)
-    -- then 11: an unknown kind is not fixed 5 V
-    ∷ case 1 (kind 5 ∷ []) (verdict 11 1)
-    ∷ case 3 (fixed 0 180 300 ∷ fixed 0 300 300 ∷ kind 9 ∷ []) (verdict 11 1)
-    -- then word by word: what earlier words have comes before 12, what later words have after it
-    ∷ case 3 (fixed 0 100 300 ∷ fixed 1 180 300 ∷ kind 5 ∷ []) (verdict 13 2)
-    ∷ case 3 (fixed 0 100 300 ∷ fixed 0 401 300 ∷ kind 5 ∷ []) (verdict 15 2)
-    ∷ case 3 (fixed 0 100 300 ∷ fixed 0 400 501 ∷ kind 5 ∷ []) (verdict 16 2)
-    ∷ case 3 (fixed 0 100 300 ∷ fixed 0 100 300 ∷ kind 5 ∷ []) (verdict 14 2)
-    ∷ case 3 (fixed 0 100 300 ∷ kind 5 ∷ fixed 0 401 300 ∷ []) (verdict 12 2)
-    ∷ case 3 (fixed 0 100 300 ∷ fixed 0 180 300 ∷ kind 255 ∷ []) (verdict 12 3)
-    -- and 17 last
-    ∷ case 3 (fixed 0 100 300 ∷ avs 300 ∷ kind 5 ∷ []) (verdict 12 3)
-    ∷ case 2 (fixed 0 100 300 ∷ avs 300 ∷ kind 5 ∷ []) (verdict 17 2)
-    -- past the count it is nothing
-    ∷ case 1 (fixed 0 100 300 ∷ kind 5 ∷ []) (verdict 0 0)
-    ∷ []
-
-pub write-order : map given table ≡ map said table
+pub write-order : WriteOrder
 unfolding firstOf eachPlace bits decodeOf reservedSet wordOf outOfBounds over100W mayFollow isFixed5V hasFixed avsDiffers sevenTo raisedOf writtenFrom
 write-order = refl

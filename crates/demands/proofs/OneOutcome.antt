@@ -1,4 +1,4 @@
--- No second outcome (01, "What the contracts settle"): for every input, a public call's contract allows one answer only.
+-- Proves the claims of specs/OneOutcome.antt.
 -- Assumes nothing.
 use mathlib.Core.Path.{_≡_, sym, _∙_}
 use mathlib.Core.Bool.{Bool}
@@ -10,26 +10,24 @@ use Rattle.steps.specs.declared.Mv50.{Mv50}
 use Rattle.steps.specs.declared.Mv100.{Mv100}
 use Rattle.steps.specs.declared.Ma10.{Ma10}
 use Rattle.objects.specs.declared.Object.{Object}
-use Rattle.demands.proofs.Contracts.{RoundDownAnswers, RoundUpAnswers}
-use Rattle.demands.proofs.Contracts.{Mv20ToMv25Answers, Mv20ToMv50Answers, Mv20ToMv100Answers, Mv25ToMv20Answers, Mv25ToMv50Answers, Mv25ToMv100Answers, Mv50ToMv20Answers, Mv50ToMv25Answers, Mv50ToMv100Answers, Mv100ToMv20Answers, Mv100ToMv25Answers, Mv100ToMv50Answers, Ma10ToMa50Answers, Ma50ToMa10Answers}
-use Rattle.demands.proofs.Contracts.{IsKindAnswers, DecodeAnswers, ReservedAnswers, EncodeAnswers, FixedWordAnswers, PpsWordAnswers, AvsWordAnswers}
-use Rattle.demands.proofs.Contracts.{ShapeAnswers, ReadAnswers, RefuseAnswers, WriteAnswers}
+use Rattle.demands.specs.CallContracts.{RoundDownAnswers, RoundUpAnswers}
+use Rattle.demands.specs.CallContracts.{Mv20ToMv25Answers, Mv20ToMv50Answers, Mv20ToMv100Answers, Mv25ToMv20Answers, Mv25ToMv50Answers, Mv25ToMv100Answers, Mv50ToMv20Answers, Mv50ToMv25Answers, Mv50ToMv100Answers, Mv100ToMv20Answers, Mv100ToMv25Answers, Mv100ToMv50Answers, Ma10ToMa50Answers, Ma50ToMa10Answers}
+use Rattle.demands.specs.CallContracts.{IsKindAnswers, DecodeAnswers, ReservedAnswers, EncodeAnswers, FixedWordAnswers, PpsWordAnswers, AvsWordAnswers}
+use Rattle.demands.specs.CallContracts.{ShapeAnswers, ReadAnswers, RefuseAnswers, WriteAnswers}
 use Rattle.rules.specs.declared.Profile.{Profile}
-use Rattle.demands.proofs.Contracts.{BadCableAnswers, DefaultAnswers, BuildAnswers, CheckAnswers, WordAtAnswers}
+use Rattle.demands.specs.CallContracts.{BadCableAnswers, DefaultAnswers, BuildAnswers, CheckAnswers, WordAtAnswers}
 use Rattle.lists.specs.declared.Words.{Words}
-use Rattle.demands.proofs.Contracts.{PositionAnswers, TakeApartAnswers, AnswerAnswers, JudgeAnswers}
+use Rattle.demands.specs.CallContracts.{PositionAnswers, TakeApartAnswers, AnswerAnswers, JudgeAnswers}
 use mathlib.Core.List.{List}
 use Rattle.steps.specs.declared.HalfWatts.{HalfWatts}
 use Rattle.verdicts.specs.declared.Verdict.{Verdict}
 use Rattle.lists.specs.declared.Listing.{Listing}
 use Rattle.ports.specs.declared.Row.{Row}
 use Rattle.ports.specs.declared.Standing.{Standing}
-use Rattle.demands.proofs.Contracts.{EmptiedAnswers, BeginAnswers, GoesOnAnswers, TakeRowAnswers, AllOrNoneAnswers, PlaceOfAnswers}
-use Rattle.demands.proofs.Contracts.{AttachDecides, AdvertiseDecides, OfferAnswers, RequestDecides, DetachDecides, RemainingDecides}
+use Rattle.demands.specs.CallContracts.{EmptiedAnswers, BeginAnswers, GoesOnAnswers, TakeRowAnswers, AllOrNoneAnswers, PlaceOfAnswers}
+use Rattle.demands.specs.CallContracts.{AttachDecides, AdvertiseDecides, OfferAnswers, RequestDecides, DetachDecides, RemainingDecides}
 use Rattle.board.specs.Promises.{SharesSetUp, SharesAttach, SharesAdvertise, SharesRequest, SharesDetach, SharesRemaining}
-
-abbrev pub Settled : {A R : Type 0} → (A → R → Type 0) → Type 0
-Settled {A} {R} allows = (a : A) (r s : R) → allows a r → allows a s → r ≡ s
+use Rattle.demands.specs.OneOutcome.{Settled, Both, NoSecondOutcome}
 
 -- Every contract here says that the answer, or what it says where it is an enum, equals a definition; what an enum says tells its cases apart.
 only : {R : Type 0} {x r s : R} → r ≡ x → s ≡ x → r ≡ s
@@ -193,10 +191,6 @@ remaining-settles t capacity r s e f = only e f
 
 -- ---- over lent rows: the answer and every row at exit, for any rows at entry
 
--- an answer and the rows at exit
-abbrev pub Both : (R : Type 0) → (R → List Row → Type 0) → Type 0
-Both R allows = (r s : R) (zs us : List Row) → allows r zs → allows s us → (r ≡ s) × (zs ≡ us)
-
 pub arin-set-up-settles : (ys : List Row) (capacity : ℕ) → Both Verdict (SharesSetUp ys capacity)
 arin-set-up-settles ys capacity r s zs us e f = (only (e .0) (f .0), only (e .1) (f .1))
 
@@ -214,3 +208,63 @@ arin-detach-settles ys capacity port r s zs us e f = (only (e .0) (f .0), only (
 
 pub arin-remaining-settles : (ys : List Row) → Settled (SharesRemaining ys)
 arin-remaining-settles ys capacity r s e f = only e f
+
+-- ---- all of them
+
+pub no-second-outcome : NoSecondOutcome
+no-second-outcome = record {
+  round-down = round-down-settles;
+  round-up = round-up-settles;
+  mv20-to-mv25 = mv20-to-mv25-settles;
+  mv20-to-mv50 = mv20-to-mv50-settles;
+  mv20-to-mv100 = mv20-to-mv100-settles;
+  mv25-to-mv20 = mv25-to-mv20-settles;
+  mv25-to-mv50 = mv25-to-mv50-settles;
+  mv25-to-mv100 = mv25-to-mv100-settles;
+  mv50-to-mv20 = mv50-to-mv20-settles;
+  mv50-to-mv25 = mv50-to-mv25-settles;
+  mv50-to-mv100 = mv50-to-mv100-settles;
+  mv100-to-mv20 = mv100-to-mv20-settles;
+  mv100-to-mv25 = mv100-to-mv25-settles;
+  mv100-to-mv50 = mv100-to-mv50-settles;
+  ma10-to-ma50 = ma10-to-ma50-settles;
+  ma50-to-ma10 = ma50-to-ma10-settles;
+  is-kind = is-kind-settles;
+  decode = decode-settles;
+  reserved-bit-set = reserved-bit-set-settles;
+  encode = encode-settles;
+  fixed-word = fixed-word-settles;
+  pps-word = pps-word-settles;
+  avs-word = avs-word-settles;
+  shape = shape-settles;
+  read = read-settles;
+  refuse = refuse-settles;
+  write = write-settles;
+  bad-cable = bad-cable-settles;
+  default = default-settles;
+  build = build-settles;
+  check = check-settles;
+  word-at = word-at-settles;
+  position = position-settles;
+  take-apart = take-apart-settles;
+  answer = answer-settles;
+  judge = judge-settles;
+  emptied = emptied-settles;
+  begin = begin-settles;
+  goes-on = goes-on-settles;
+  take-row = take-row-settles;
+  all-or-none = all-or-none-settles;
+  place-of = place-of-settles;
+  attach = attach-settles;
+  advertise = advertise-settles;
+  offer = offer-settles;
+  request = request-settles;
+  detach = detach-settles;
+  remaining = remaining-settles;
+  arin-set-up = arin-set-up-settles;
+  arin-attach = arin-attach-settles;
+  arin-advertise = arin-advertise-settles;
+  arin-request = arin-request-settles;
+  arin-detach = arin-detach-settles;
+  arin-remaining = arin-remaining-settles;
+}

@@ -1,10 +1,10 @@
--- Demand 2, the power rules: what is built passes its own check and goes there and back; and which currents are allowed, plainly.
+-- Proves the claims of specs/PowerRules.antt.
 -- Assumes nothing.
 use mathlib.Core.Path.{_≡_, refl, sym, ap, _∙_}
 use mathlib.Core.Bool.{Bool, true, false, _&&_, _||_, and-eq-true-iff}
 use mathlib.Core.List.{List}
 use mathlib.Core.Logic.{_↔_, _⊎_, inl, inr, ⊎-elim}
-use Prim.Native.Nat.{ℕ, _*_, _≤_, _<_, min}
+use Prim.Native.Nat.{ℕ, min}
 use lib.Dec.{leb, eqb}
 use lib.ListN.{getD}
 use borrow.Author.Tests.{leb-true, le-leb, eqb-true, eq-eqb}
@@ -23,14 +23,15 @@ use Rattle.lists.proofs.Readings.{read-clear}
 use Rattle.lists.proofs.RoundTrips as whole-list
 use Rattle.rules.specs.declared.Profile.{Profile}
 use Rattle.rules.specs.Profiles.{buildRefusals}
-use Rattle.rules.specs.Currents.{downAt, upAt, cable10mA, fixedAllowed, progDown, cable50mA, progCurrent, mayExceed, progAllowed}
+use Rattle.rules.specs.Currents.{downAt, upAt, cable10mA, progDown, cable50mA, progCurrent, mayExceed, progAllowed}
 use Rattle.rules.specs.Building.{wordFor, builtCount, builtWords}
 use Rattle.rules.specs.Checking.{checkRefusals, checkedOf}
 use Rattle.rules.proofs.Allowed.{at-20-V, above-3-A, up-to-3-A}
 use Rattle.rules.proofs.Builds.{build-numbered, build-verdict, build-clear}
 use Rattle.rules.proofs.Checks.{check-verdict}
 use Rattle.rules.proofs.BuiltPasses.{shape-clear, check-clear, built-counts, built-fits}
-use Rattle.demands.proofs.Contracts.{ReadAnswers, WriteAnswers, BuildAnswers, CheckAnswers}
+use Rattle.demands.specs.CallContracts.{BuildAnswers}
+use Rattle.demands.specs.PowerRules.{BuiltPasses, BuiltReturns, AllowedAt20V, AllowedPast3A, AllowedTo3A, ProgAllowedExactly}
 
 -- ---- what is built
 
@@ -43,15 +44,12 @@ built-clear p b e s =
 built-list : (p : Profile) (b : Listing) → BuildAnswers p b → b .verdict ≡ success → b .list ≡ builtWords p
 built-list p b e s = ap (λ (x : Listing). x .list) (e ∙ build-clear p (built-clear p b e s))
 
--- every list built for a profile passes the rule check for that profile
-pub built-passes : (p : Profile) (b : Listing) → BuildAnswers p b → b .verdict ≡ success → (v : Verdict) → CheckAnswers p (b .list) v → v ≡ success
+pub built-passes : BuiltPasses
 built-passes p b e s v f =
     f ∙ ap (checkedOf p) (built-list p b e s) ∙ check-verdict p (builtWords p)
     ∙ all-missed _ success (checkRefusals p (builtWords p)) (check-clear p (built-clear p b e s))
 
--- and reads, and writes back to the same list
-pub built-returns : (p : Profile) (b : Listing) → BuildAnswers p b → b .verdict ≡ success
-    → (r : Reading) → ReadAnswers (b .list) r → (w : Listing) → WriteAnswers (r .list) w → (r .verdict ≡ success) × (w ≡ b)
+pub built-returns : BuiltReturns
 built-returns p b e s r f w g =
     let x = built-clear p b e s in
     let sh = shape-clear p x in
@@ -88,38 +86,30 @@ either-figure a b c = (
   (λ s. or-is (eqb a b) (eqb a c) .1 (⊎-elim (λ z. inl (eq-eqb a b z)) (λ z. inr (eq-eqb a c z)) s)),
 )
 
-module _ (p : Profile) (volts a : ℕ) where
-  -- at 20 V: either rounding, cut to the cable
-  pub allowed-at-20-V : volts ≡ 20
-      → (fixedAllowed p volts a ≡ true) ↔ ((a ≡ min (downAt p volts) (cable10mA p)) ⊎ (a ≡ min (upAt p volts) (cable10mA p)))
-  allowed-at-20-V e = rw (at-20-V p volts a e) (either-figure a (min (downAt p volts) (cable10mA p)) (min (upAt p volts) (cable10mA p)))
+pub allowed-at-20-V : AllowedAt20V
+allowed-at-20-V p volts a e = rw (at-20-V p volts a e) (either-figure a (min (downAt p volts) (cable10mA p)) (min (upAt p volts) (cable10mA p)))
 
-  -- at 5, 9 and 15 V, where P exceeds 6 times the volts: from 3 A to the smaller of cable and the quotient rounded up
-  pub allowed-past-3-A : (volts ≡ 20 → ⊥) → 6 * volts < p .present .0
-      → (fixedAllowed p volts a ≡ true) ↔ ((300 ≤ a) × (a ≤ min (upAt p volts) (cable10mA p)))
-  allowed-past-3-A f h = rw (above-3-A p volts a f h) (
-    (λ e. let s = and-eq-true-iff (leb 300 a) (leb a (min (upAt p volts) (cable10mA p))) .0 e in (leb-true 300 a (s .0), leb-true a (min (upAt p volts) (cable10mA p)) (s .1))),
-    (λ s. and-eq-true-iff (leb 300 a) (leb a (min (upAt p volts) (cable10mA p))) .1 (le-leb 300 a (s .0), le-leb a (min (upAt p volts) (cable10mA p)) (s .1))),
-  )
+pub allowed-past-3-A : AllowedPast3A
+allowed-past-3-A p volts a f h = rw (above-3-A p volts a f h) (
+  (λ e. let s = and-eq-true-iff (leb 300 a) (leb a (min (upAt p volts) (cable10mA p))) .0 e in (leb-true 300 a (s .0), leb-true a (min (upAt p volts) (cable10mA p)) (s .1))),
+  (λ s. and-eq-true-iff (leb 300 a) (leb a (min (upAt p volts) (cable10mA p))) .1 (le-leb 300 a (s .0), le-leb a (min (upAt p volts) (cable10mA p)) (s .1))),
+)
 
-  -- else the quotient rounded either way
-  pub allowed-to-3-A : (volts ≡ 20 → ⊥) → p .present .0 ≤ 6 * volts → (fixedAllowed p volts a ≡ true) ↔ ((a ≡ downAt p volts) ⊎ (a ≡ upAt p volts))
-  allowed-to-3-A f h = rw (up-to-3-A p volts a f h) (either-figure a (downAt p volts) (upAt p volts))
+pub allowed-to-3-A : AllowedTo3A
+allowed-to-3-A p volts a f h = rw (up-to-3-A p volts a f h) (either-figure a (downAt p volts) (upAt p volts))
 
-  -- PPS: the built figure, or, in two ranges of M, more, up to the smaller of cable and the rounded-down quotient
-  pub prog-allowed-exactly : (progAllowed p volts a ≡ true)
-      ↔ ((a ≡ progCurrent p volts) ⊎ ((mayExceed (p .max .0) volts ≡ true) × ((progCurrent p volts ≤ a) × (a ≤ min (progDown p volts) (cable50mA p)))))
-  unfolding progAllowed
-  prog-allowed-exactly =
-      let top = min (progDown p volts) (cable50mA p) in
-      let more = mayExceed (p .max .0) volts in
-      let low = leb (progCurrent p volts) a in
-      let high = leb a top in (
-        (λ e. ⊎-elim (λ z. inl (eqb-true a (progCurrent p volts) z))
-            (λ z. let s = and-eq-true-iff more (low && high) .0 z in
-            let t = and-eq-true-iff low high .0 (s .1) in
-            inr (s .0, (leb-true (progCurrent p volts) a (t .0), leb-true a top (t .1))))
-            (or-is (eqb a (progCurrent p volts)) (more && (low && high)) .0 e)),
-        (λ s. or-is (eqb a (progCurrent p volts)) (more && (low && high)) .1 (⊎-elim (λ z. inl (eq-eqb a (progCurrent p volts) z))
-            (λ z. inr (and-eq-true-iff more (low && high) .1 (z .0, and-eq-true-iff low high .1 (le-leb (progCurrent p volts) a (z .1 .0), le-leb a top (z .1 .1))))) s)),
-      )
+pub prog-allowed-exactly : ProgAllowedExactly
+unfolding progAllowed
+prog-allowed-exactly p volts a =
+    let top = min (progDown p volts) (cable50mA p) in
+    let more = mayExceed (p .max .0) volts in
+    let low = leb (progCurrent p volts) a in
+    let high = leb a top in (
+      (λ e. ⊎-elim (λ z. inl (eqb-true a (progCurrent p volts) z))
+          (λ z. let s = and-eq-true-iff more (low && high) .0 z in
+          let t = and-eq-true-iff low high .0 (s .1) in
+          inr (s .0, (leb-true (progCurrent p volts) a (t .0), leb-true a top (t .1))))
+          (or-is (eqb a (progCurrent p volts)) (more && (low && high)) .0 e)),
+      (λ s. or-is (eqb a (progCurrent p volts)) (more && (low && high)) .1 (⊎-elim (λ z. inl (eq-eqb a (progCurrent p volts) z))
+          (λ z. inr (and-eq-true-iff more (low && high) .1 (z .0, and-eq-true-iff low high .1 (le-leb (progCurrent p volts) a (z .1 .0), le-leb a top (z .1 .1))))) s)),
+    )

@@ -1,10 +1,9 @@
--- What numbers a shared request can get: its own (20 to 25, place 0) and those of sharing (30 to 37). No refusal of a list's shape comes
--- out of it, for any rows, sound or not.
+-- Proves the claims of specs/RequestNumbers.antt.
 -- Assumes nothing.
 use mathlib.Core.Path.{_≡_, refl, sym, ap, _∙_, subst}
 use mathlib.Core.Bool.{Bool, true, false, _&&_, and-eq-true-iff}
 use mathlib.Core.List.{List, [], _∷_, _++_}
-use Prim.Native.Nat.{ℕ, zero, suc, _≤_}
+use Prim.Native.Nat.{ℕ, zero, suc}
 use native.Mathlib.Omega.{arith}
 use lib.Dec.{leb, ltb, eqb}
 use lib.ListN.{length}
@@ -12,7 +11,6 @@ use borrow.Author.Tests.{eqb-true, eqb-false, leb-true}
 use Rattle.verdicts.specs.declared.Verdict.{Verdict}
 use Rattle.verdicts.specs.Refusals.{Refusal, refusal, eachPlace, firstOf, verdict, success, verdictOf}
 use Rattle.verdicts.proofs.First.{NoneApply, none-applied, stops, goes-on}
-use Rattle.steps.specs.Ranges.{within}
 use Rattle.requests.proofs.Answers.{answer-numbered, answer-verdict}
 use Rattle.ports.specs.declared.Row.{Row}
 use Rattle.ports.specs.Rows.{portRow, allHeld, leftFor}
@@ -20,10 +18,10 @@ use Rattle.ports.specs.RuleLists.{ruleList}
 use Rattle.ports.specs.Requests.{newHeld}
 use Rattle.ports.specs.Refusing.{tableRefusals, faultRows, sumFault, soundRefusals, remainingRefusals, noSuchPort, portRefusals, notAttached, useRefusals, ownRefusals, noPowerNow}
 use Rattle.ports.specs.Lending.{requestAnswer}
-use Rattle.ports.proofs.RuleLists.{attached-offerable}
 use Rattle.ports.proofs.Passing.{use-numbered, attached}
-use Rattle.board.specs.Promises.{SharesRequest}
-use Rattle.demands.proofs.RuleLists.{OwnRefusal, refused-by-own}
+use Rattle.demands.specs.RuleLists.{OwnRefusal}
+use Rattle.demands.specs.RequestNumbers.{ofSharing, Outcome, accepted, own, shared, RequestOutcome, NeverOfShape}
+use Rattle.demands.proofs.RuleLists.{attached-offerable, refused-by-own}
 
 -- every number of a table passes a test
 abbrev allPass : (ℕ → Bool) → List Refusal → Bool
@@ -48,10 +46,6 @@ module _ (test : ℕ → Bool) where
   number-passes (refusal true n p ∷ rs) t f = and-eq-true-iff (test n) (allPass test rs) .0 t .0
   number-passes (refusal false n p ∷ rs) t f = number-passes rs (and-eq-true-iff (test n) (allPass test rs) .0 t .1) f
 
--- the numbers of sharing
-abbrev pub ofSharing : ℕ → Bool
-ofSharing n = within 30 37 n
-
 use-shares : (capacity : ℕ) (t : List Row) (port : ℕ) → allPass ofSharing (useRefusals capacity t port) ≡ true
 use-shares capacity t port =
     pass-append ofSharing (portRefusals capacity t port) (notAttached (portRow t port) port)
@@ -60,18 +54,12 @@ use-shares capacity t port =
     (pass-append ofSharing (eachPlace (faultRows t) (length t)) (sumFault capacity (allHeld t)) (pass-places ofSharing (faultRows t) (λ k. refl)
     (length t)) refl)) refl) refl
 
--- success, the request's own refusal, or one of sharing
-pub data Outcome (r : Verdict) : Type 0 where
-  accepted : r ≡ success → Outcome r
-  own : OwnRefusal r → Outcome r
-  shared : ofSharing (r .number) ≡ true → Outcome r
+of-verdict : (r s : Verdict) → r ≡ s → Outcome s → Outcome r
+of-verdict r s e o = subst Outcome (sym e) o
 
 module _ (ys : List Row) (capacity port word : ℕ) where
   abbrev rest : List Refusal
   rest = ownRefusals (portRow ys port) word ++ noPowerNow (leftFor capacity ys port) (portRow ys port) port word
-
-  of-verdict : (r s : Verdict) → r ≡ s → Outcome s → Outcome r
-  of-verdict r s e o = subst Outcome (sym e) o
 
   -- past the port: the list's own answer, then 36
   past-port : NoneApply (useRefusals capacity ys port) → Outcome (verdictOf rest)
@@ -93,25 +81,24 @@ module _ (ys : List Row) (capacity port word : ℕ) where
         (own (subst OwnRefusal v (refused-by-own (portRow ys port) (attached-offerable (portRow ys port) (attached capacity ys port x)) word
         (λ z. f (sym (ap (λ (u : Verdict). u .number) v) ∙ z)))))
 
-  pub request-outcome : (r : Verdict) (zs : List Row) → SharesRequest ys capacity port word r zs → Outcome r
-  unfolding requestAnswer
-  request-outcome r zs e = of-verdict r _ (e .0) (go (eqb (verdictOf (useRefusals capacity ys port) .number) 0) refl) where
-    go : (b : Bool) → eqb (verdictOf (useRefusals capacity ys port) .number) 0 ≡ b → Outcome (verdictOf (useRefusals capacity ys port ++ rest))
-    go true q =
-        let z = eqb-true (verdictOf (useRefusals capacity ys port) .number) 0 q in
-        of-verdict _ _ (goes-on verdict (useRefusals capacity ys port) rest success (use-numbered capacity ys port) z)
-        (past-port (none-applied (useRefusals capacity ys port) (use-numbered capacity ys port) z))
-    go false q =
-        let f = eqb-false (verdictOf (useRefusals capacity ys port) .number) 0 q in
-        of-verdict _ _ (stops verdict (useRefusals capacity ys port) rest success f)
-        (shared (number-passes ofSharing (useRefusals capacity ys port) (use-shares capacity ys port) f))
+pub request-outcome : RequestOutcome
+unfolding requestAnswer
+request-outcome ys capacity port word r zs e = of-verdict r _ (e .0) (go (eqb (verdictOf (useRefusals capacity ys port) .number) 0) refl) where
+  go : (b : Bool) → eqb (verdictOf (useRefusals capacity ys port) .number) 0 ≡ b → Outcome (verdictOf (useRefusals capacity ys port ++ rest ys capacity port word))
+  go true q =
+      let z = eqb-true (verdictOf (useRefusals capacity ys port) .number) 0 q in
+      of-verdict _ _ (goes-on verdict (useRefusals capacity ys port) (rest ys capacity port word) success (use-numbered capacity ys port) z)
+      (past-port ys capacity port word (none-applied (useRefusals capacity ys port) (use-numbered capacity ys port) z))
+  go false q =
+      let f = eqb-false (verdictOf (useRefusals capacity ys port) .number) 0 q in
+      of-verdict _ _ (stops verdict (useRefusals capacity ys port) (rest ys capacity port word) success f)
+      (shared (number-passes ofSharing (useRefusals capacity ys port) (use-shares capacity ys port) f))
 
-  -- "so the shape refusals never come out of the request call": these are 10 to 17
-  pub never-of-shape : (r : Verdict) (zs : List Row) → SharesRequest ys capacity port word r zs → 10 ≤ r .number → r .number ≤ 17 → ⊥
-  never-of-shape r zs e low high = by (request-outcome r zs e) where
-    by : Outcome r → ⊥
-    by (accepted z) = let q = ap (λ (v : Verdict). v .number) z in absurd (omega (arith, q, low))
-    by (own o) = let q = o .from-20 in absurd (omega (arith, q, high))
-    by (shared s) =
-        let q = leb-true 30 (r .number) (and-eq-true-iff (leb 30 (r .number)) (leb (r .number) 37) .0 s .0) in
-        absurd (omega (arith, q, high))
+pub never-of-shape : NeverOfShape
+never-of-shape ys capacity port word r zs e low high = by (request-outcome ys capacity port word r zs e) where
+  by : Outcome r → ⊥
+  by (accepted z) = let q = ap (λ (v : Verdict). v .number) z in absurd (omega (arith, q, low))
+  by (own o) = let q = o .from-20 in absurd (omega (arith, q, high))
+  by (shared s) =
+      let q = leb-true 30 (r .number) (and-eq-true-iff (leb 30 (r .number)) (leb (r .number) 37) .0 s .0) in
+      absurd (omega (arith, q, high))

@@ -1,10 +1,9 @@
--- The rule list of a row that can be offered (01, "Ports that share"): it passes its check, and leaves a request no refusal but the
--- request's own.
+-- Proves the claims of specs/RuleLists.antt on the list.
 -- Assumes nothing.
 use mathlib.Core.Path.{_≡_, refl, sym, ap, _∙_, subst}
 use mathlib.Core.Bool.{Bool, true, false, _&&_, and-eq-true-iff}
 use mathlib.Core.List.{List, [], _∷_, _++_}
-use Prim.Native.Nat.{ℕ, _≤_}
+use Prim.Native.Nat.{ℕ}
 use lib.Dec.{leb, eqb}
 use borrow.Author.Tests.{leb-true, eqb-true}
 use Rattle.verdicts.specs.declared.Verdict.{Verdict}
@@ -20,16 +19,12 @@ use Rattle.rules.proofs.Checks.{check-verdict}
 use Rattle.requests.specs.Answering.{namedBy, namedRefusals, answerOf}
 use Rattle.ports.specs.declared.Row.{Row}
 use Rattle.ports.specs.RuleLists.{ruleProfile, ruleList}
-use Rattle.ports.proofs.RuleLists.{Offerable, rule-profile-passes, rule-list-is, rule-list-clear}
+use Rattle.ports.proofs.Sound.{SoundAttached}
+use Rattle.ports.proofs.RuleLists as there
 use Rattle.rules.proofs.BuiltPasses.{check-clear}
+use Rattle.demands.specs.RuleLists.{Offerable, OwnRefusal, RuleListPasses, RuleListNotEmpty, RuleListTo7, RefusedByOwn}
 
 -- ---- requests that are refused by their own numbers
-
--- "Requests check the shape of the list first, then 20, 21, 23, 22, 24, 25." These have the place 0.
-pub record OwnRefusal (v : Verdict) : Type 0 where
-  pub from-20 : 20 ≤ v .number
-  pub to-25 : v .number ≤ 25
-  pub place-0 : v .place ≡ 0
 
 abbrev own : ℕ → ℕ → Bool
 own n p = (leb 20 n && leb n 25) && eqb p 0
@@ -61,22 +56,27 @@ own-named NotAllowed w = refl
 
 -- ---- the rule list
 
-module _ (y : Row) (o : Offerable y) where
-  -- "The rule check passes a list exactly when its shape passes, ..": this one passes, for the profile it is built for
-  pub rule-list-passes : checkedOf (ruleProfile y) (ruleList y) ≡ success
-  rule-list-passes =
-      ap (checkedOf (ruleProfile y)) (rule-list-is y o)
-      ∙ check-verdict (ruleProfile y) (builtWords (ruleProfile y))
-      ∙ all-missed verdict success (checkRefusals (ruleProfile y) (builtWords (ruleProfile y))) (check-clear (ruleProfile y) (rule-profile-passes y o))
+-- as the laws of `ports` have it, and back
+pub offerable : (y : Row) → Offerable y → there.Offerable y
+offerable y o = record { max-high = o .max-high; present-low = o .present-low; present-high = o .present-high; cable-is = o .cable-is }
 
-  -- "SPR source lists of 1 to 7 words"
-  pub rule-list-not-empty : 1 ≤ ruleList y .count
-  rule-list-not-empty = count-low (ruleList y .count) (rule-list-clear y o .0)
+pub attached-offerable : (y : Row) → SoundAttached y → Offerable y
+attached-offerable y a =
+    let o = there.attached-offerable y a in
+    record { max-high = o .max-high; present-low = o .present-low; present-high = o .present-high; cable-is = o .cable-is }
 
-  pub rule-list-to-7 : ruleList y .count ≤ 7
-  rule-list-to-7 = count-high (ruleList y .count) (rule-list-clear y o .0)
+pub rule-list-passes : RuleListPasses
+rule-list-passes y o =
+    ap (checkedOf (ruleProfile y)) (there.rule-list-is y (offerable y o))
+    ∙ check-verdict (ruleProfile y) (builtWords (ruleProfile y))
+    ∙ all-missed verdict success (checkRefusals (ruleProfile y) (builtWords (ruleProfile y))) (check-clear (ruleProfile y) (there.rule-profile-passes y (offerable y o)))
 
-  -- "34 or 35, the request's own, 36": a request on it is never refused for the list's shape, only by a number of its own
-  pub refused-by-own : (w : ℕ) → (answerOf (ruleList y) w .number ≡ 0 → ⊥) → OwnRefusal (answerOf (ruleList y) w)
-  unfolding answerOf
-  refused-by-own w f = own-after (shapeRefusals (ruleList y)) _ (rule-list-clear y o) (own-named (namedBy (ruleList y) w) w) f
+pub rule-list-not-empty : RuleListNotEmpty
+rule-list-not-empty y o = count-low (ruleList y .count) (there.rule-list-clear y (offerable y o) .0)
+
+pub rule-list-to-7 : RuleListTo7
+rule-list-to-7 y o = count-high (ruleList y .count) (there.rule-list-clear y (offerable y o) .0)
+
+pub refused-by-own : RefusedByOwn
+unfolding answerOf
+refused-by-own y o w f = own-after (shapeRefusals (ruleList y)) _ (there.rule-list-clear y (offerable y o)) (own-named (namedBy (ruleList y) w) w) f

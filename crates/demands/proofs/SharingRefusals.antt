@@ -1,9 +1,7 @@
--- Demand 1 for the sharing calls: number n with its place is given exactly when refusal n applies there and none before it in the
--- order does; on a refusal the list is empty, the power zero, and no row changes. The tables of rows are in specs/ of `ports`.
+-- Proves the claims of specs/SharingRefusals.antt: what a call over rows answers, and the rows it leaves, over any table of refusals.
 -- Assumes nothing.
 use mathlib.Core.Path.{_≡_, refl, ap, _∙_}
 use mathlib.Core.List.{List}
-use Prim.Native.Nat.{ℕ}
 use Rattle.verdicts.specs.declared.Verdict.{Verdict}
 use Rattle.verdicts.specs.Refusals.{Refusal, firstOf, success, verdictOf}
 use Rattle.verdicts.proofs.First.{Telling, telling-numbered, none-told, refused-so, exactly-told}
@@ -17,8 +15,9 @@ use Rattle.ports.specs.declared.RemainingPower.{RemainingPower}
 use Rattle.ports.specs.Refusing.{setUpRefusals, attachRefusals, useRefusals, requestRefusals, remainingRefusals}
 use Rattle.ports.specs.Lending.{noPowerLeft, unlessRefused, setUpAnswer, setUpRows, attachAnswer, attachRows, advertiseAnswer, advertiseRows, requestAnswer, requestRows, detachAnswer, detachRows, remainingAnswer}
 use Rattle.ports.proofs.Passing.{set-up-numbered, attach-numbered, use-numbered, request-numbered, remaining-numbered}
-use Rattle.board.specs.Promises.{SharesSetUp, SharesAttach, SharesAdvertise, SharesRequest, SharesDetach, SharesRemaining}
-use Rattle.demands.proofs.Refusals.{Answers, answers, answers-with}
+use Rattle.demands.specs.Refusals.{Answers}
+use Rattle.demands.specs.SharingRefusals.{SetUpRefusals, AttachRefusals, AdvertiseRefusals, RequestRefusals, DetachRefusals, RemainingRefusals}
+use Rattle.demands.proofs.Refusals.{answers, answers-with}
 
 -- ---- an answer over any table
 
@@ -52,45 +51,38 @@ module _ (rs : List Refusal) (t : Telling rs) where
 
 -- ---- the calls
 
-module _ (ys : List Row) (capacity : ℕ) where
-  pub set-up-refusals : (r : Verdict) (zs : List Row) → SharesSetUp ys capacity r zs
-      → Answers r (setUpRefusals capacity ys) × ((r ≡ success → ⊥) → zs ≡ ys)
-  unfolding setUpAnswer setUpRows
-  set-up-refusals r zs e =
-      let rs = setUpRefusals capacity ys in
-      refuses rs (telling-numbered rs (set-up-numbered capacity ys)) ys zs _ (e .1) r (e .0)
+pub set-up-refusals : SetUpRefusals
+unfolding setUpAnswer setUpRows
+set-up-refusals ys capacity r zs e =
+    let rs = setUpRefusals capacity ys in
+    refuses rs (telling-numbered rs (set-up-numbered capacity ys)) ys zs _ (e .1) r (e .0)
 
-  pub attach-refusals : (port cable : ℕ) (r : Listing) (zs : List Row) → SharesAttach ys capacity port cable r zs
-      → Answers (r .verdict) (attachRefusals capacity ys port cable) × ((r .verdict ≡ success → ⊥) → (r .list ≡ noWords) × (zs ≡ ys))
-  unfolding attachAnswer attachRows
-  attach-refusals port cable r zs e =
-      let rs = attachRefusals capacity ys port cable in
-      refuses-list rs (telling-numbered rs (attach-numbered capacity ys port cable)) ys zs _ (e .1) _ r (e .0)
+pub attach-refusals : AttachRefusals
+unfolding attachAnswer attachRows
+attach-refusals ys capacity port cable r zs e =
+    let rs = attachRefusals capacity ys port cable in
+    refuses-list rs (telling-numbered rs (attach-numbered capacity ys port cable)) ys zs _ (e .1) _ r (e .0)
 
-  pub advertise-refusals : (port : ℕ) (r : Listing) (zs : List Row) → SharesAdvertise ys capacity port r zs
-      → Answers (r .verdict) (useRefusals capacity ys port) × ((r .verdict ≡ success → ⊥) → (r .list ≡ noWords) × (zs ≡ ys))
-  unfolding advertiseAnswer advertiseRows
-  advertise-refusals port r zs e =
-      let rs = useRefusals capacity ys port in
-      refuses-list rs (telling-numbered rs (use-numbered capacity ys port)) ys zs _ (e .1) _ r (e .0)
+pub advertise-refusals : AdvertiseRefusals
+unfolding advertiseAnswer advertiseRows
+advertise-refusals ys capacity port r zs e =
+    let rs = useRefusals capacity ys port in
+    refuses-list rs (telling-numbered rs (use-numbered capacity ys port)) ys zs _ (e .1) _ r (e .0)
 
-  pub request-refusals : (port word : ℕ) (r : Verdict) (zs : List Row) → SharesRequest ys capacity port word r zs
-      → Answers r (requestRefusals capacity ys port word) × ((r ≡ success → ⊥) → zs ≡ ys)
-  unfolding requestAnswer requestRows
-  request-refusals port word r zs e =
-      let rs = requestRefusals capacity ys port word in
-      refuses rs (telling-numbered rs (request-numbered capacity ys port word)) ys zs _ (e .1) r (e .0)
+pub request-refusals : RequestRefusals
+unfolding requestAnswer requestRows
+request-refusals ys capacity port word r zs e =
+    let rs = requestRefusals capacity ys port word in
+    refuses rs (telling-numbered rs (request-numbered capacity ys port word)) ys zs _ (e .1) r (e .0)
 
-  pub detach-refusals : (port : ℕ) (r : Verdict) (zs : List Row) → SharesDetach ys capacity port r zs
-      → Answers r (useRefusals capacity ys port) × ((r ≡ success → ⊥) → zs ≡ ys)
-  unfolding detachAnswer detachRows
-  detach-refusals port r zs e =
-      let rs = useRefusals capacity ys port in
-      refuses rs (telling-numbered rs (use-numbered capacity ys port)) ys zs _ (e .1) r (e .0)
+pub detach-refusals : DetachRefusals
+unfolding detachAnswer detachRows
+detach-refusals ys capacity port r zs e =
+    let rs = useRefusals capacity ys port in
+    refuses rs (telling-numbered rs (use-numbered capacity ys port)) ys zs _ (e .1) r (e .0)
 
-  pub remaining-refusals : (r : RemainingPower) → SharesRemaining ys capacity r
-      → Answers (r .verdict) (remainingRefusals capacity ys) × ((r .verdict ≡ success → ⊥) → r .power ≡ halfWatts 0)
-  unfolding remainingAnswer
-  remaining-refusals r e =
-      let rs = remainingRefusals capacity ys in
-      answers-power rs (telling-numbered rs (remaining-numbered capacity ys)) _ r e
+pub remaining-refusals : RemainingRefusals
+unfolding remainingAnswer
+remaining-refusals ys capacity r e =
+    let rs = remainingRefusals capacity ys in
+    answers-power rs (telling-numbered rs (remaining-numbered capacity ys)) _ r e

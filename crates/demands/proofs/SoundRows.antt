@@ -1,4 +1,4 @@
--- Rows that are sound stay sound after any call, accepted or refused, with any arguments (01, "Ports that share").
+-- Proves the claims of specs/SoundRows.antt: each call writes one sound row, and what is held together stays within the capacity.
 -- Assumes nothing.
 use mathlib.Core.Path.{_≡_, refl, sym, ap, _∙_, subst}
 use mathlib.Core.Bool.{Bool, true, false, not, _||_}
@@ -10,11 +10,9 @@ use lib.Dec.{eqb}
 use lib.ListN.{length, length-set, length-map, set}
 use lib.Seq.{getD-set-same, getD-set-other}
 use borrow.Author.Tests.{eqb-true, eqb-false, ltb-false, le-ltb, not-false}
-use Rattle.verdicts.specs.declared.Verdict.{Verdict}
 use Rattle.verdicts.specs.Refusals.{Refusal, refusal, eachPlace, firstOf, success}
 use Rattle.verdicts.proofs.First.{NoneApply, none-left, none-right, none-at, none-all, none-append, all-missed}
 use Rattle.steps.proofs.RangeLaws.{at-least, at-most}
-use Rattle.lists.specs.declared.Listing.{Listing}
 use Rattle.rules.specs.Profiles.{badCable}
 use Rattle.requests.specs.Answering.{answerOf}
 use Rattle.requests.proofs.Answers.{answer-verdict}
@@ -26,20 +24,16 @@ use Rattle.ports.specs.Requests.{newHeld}
 use Rattle.ports.specs.Refusing.{tableRefusals, freshRows, setUpRefusals, faultRows, sumFault, soundRefusals, remainingRefusals, portRefusals, cannotAttach, attachRefusals, useRefusals, ownRefusals, noPowerNow, requestRefusals}
 use Rattle.ports.specs.Lending.{unlessRefused, setUpRows, attachRows, advertiseRows, requestRows, detachRows}
 use Rattle.ports.proofs.Sound.{SoundAttached, SoundLimits, limits-of, sound-empty, sound-attached, attached-sound, empty-sound, either-cable}
-use Rattle.ports.proofs.RuleLists.{attached-from-15, attached-offerable}
+use Rattle.ports.proofs.RuleLists.{attached-from-15}
 use Rattle.ports.proofs.Sums.{others-agree, one-apart}
 use Rattle.ports.proofs.Passing.{capacity-low, sound-at, sum-fits, rows-pass, port-at, own-fits, row-sound, use-port, attached, cable-kept}
 use Rattle.ports.proofs.Offering.{held-from-15, offered-to-max}
-use Rattle.board.specs.Promises.{SharesSetUp, SharesAttach, SharesAdvertise, SharesRequest, SharesDetach}
+use Rattle.demands.specs.SoundRows.{SoundRows, SetUpSounds, SetUpKeeps, AttachKeeps, AdvertiseKeeps, DetachKeeps, RequestKeeps}
+use Rattle.demands.proofs.RuleLists.{attached-offerable}
 use Rattle.demands.proofs.AcceptedPower.{held-to-P}
 use Rattle.demands.proofs.AcceptedPower as accepted
 
 -- ---- sound rows
-
--- each row is sound, and together they do not hold more than the capacity
-pub record SoundRows (capacity : ℕ) (ys : List Row) : Type 0 where
-  pub each : (k : ℕ) → k < length ys → soundRow (rowOf ys k) ≡ true
-  pub sum : allHeld ys ≤ capacity
 
 pub of-clear : (capacity : ℕ) (ys : List Row) → NoneApply (remainingRefusals capacity ys) → SoundRows capacity ys
 of-clear capacity ys x = record { each = sound-at capacity ys x; sum = sum-fits capacity ys x }
@@ -209,70 +203,68 @@ module _ (capacity : ℕ) (ys : List Row) where
       (of-clear capacity ys (rows-pass capacity ys port x)) (offered-sound capacity ys port x cable good)
       (same-held port cable x)
 
-  module _ (s : SoundRows capacity ys) where
-    pub attach-keeps : (port cable : ℕ) (r : Listing) (zs : List Row) → SharesAttach ys capacity port cable r zs → SoundRows capacity zs
-    unfolding attachRows
-    attach-keeps port cable r zs e =
-        subst (SoundRows capacity) (sym (e .1)) (unless (SoundRows capacity) ys (attachRefusals capacity ys port cable) _ s (λ x.
-        offer-kept port cable (none-left (portRefusals capacity ys port) (cannotAttach (portRow ys port) port cable) x) (none-right
-        (portRefusals capacity ys port) (cannotAttach (portRow ys port) port cable) x .0)))
+pub attach-keeps : AttachKeeps
+unfolding attachRows
+attach-keeps capacity ys s port cable r zs e =
+    subst (SoundRows capacity) (sym (e .1)) (unless (SoundRows capacity) ys (attachRefusals capacity ys port cable) _ s (λ x.
+    offer-kept capacity ys port cable (none-left (portRefusals capacity ys port) (cannotAttach (portRow ys port) port cable) x) (none-right
+    (portRefusals capacity ys port) (cannotAttach (portRow ys port) port cable) x .0)))
 
-    pub advertise-keeps : (port : ℕ) (r : Listing) (zs : List Row) → SharesAdvertise ys capacity port r zs → SoundRows capacity zs
-    unfolding advertiseRows
-    advertise-keeps port r zs e =
-        subst (SoundRows capacity) (sym (e .1)) (unless (SoundRows capacity) ys (useRefusals capacity ys port) _ s (λ x.
-        offer-kept port (portRow ys port .cable) (use-port capacity ys port x) (cable-kept capacity ys port x)))
+pub advertise-keeps : AdvertiseKeeps
+unfolding advertiseRows
+advertise-keeps capacity ys s port r zs e =
+    subst (SoundRows capacity) (sym (e .1)) (unless (SoundRows capacity) ys (useRefusals capacity ys port) _ s (λ x.
+    offer-kept capacity ys port (portRow ys port .cable) (use-port capacity ys port x) (cable-kept capacity ys port x)))
 
-    pub detach-keeps : (port : ℕ) (r : Verdict) (zs : List Row) → SharesDetach ys capacity port r zs → SoundRows capacity zs
-    unfolding detachRows
-    detach-keeps port r zs e =
-        subst (SoundRows capacity) (sym (e .1)) (unless (SoundRows capacity) ys (useRefusals capacity ys port) _ s (λ x.
-        let p = use-port capacity ys port x in
-        let y = portRow ys port in
-        written-sound capacity ys (port - 1) (emptied y) (port-at capacity ys port p) s
-        (emptied-sound capacity ys port y (attached capacity ys port x .limits)) (less-held port p)))
+pub detach-keeps : DetachKeeps
+unfolding detachRows
+detach-keeps capacity ys s port r zs e =
+    subst (SoundRows capacity) (sym (e .1)) (unless (SoundRows capacity) ys (useRefusals capacity ys port) _ s (λ x.
+    let p = use-port capacity ys port x in
+    let y = portRow ys port in
+    written-sound capacity ys (port - 1) (emptied y) (port-at capacity ys port p) s
+    (emptied-sound capacity ys port y (attached capacity ys port x .limits)) (less-held capacity ys port p)))
 
-    pub request-keeps : (port word : ℕ) (r : Verdict) (zs : List Row) → SharesRequest ys capacity port word r zs → SoundRows capacity zs
-    unfolding requestRows
-    request-keeps port word r zs e =
-        subst (SoundRows capacity) (sym (e .1)) (unless (SoundRows capacity) ys (requestRefusals capacity ys port word) _ s (λ x.
-        let u = none-left (useRefusals capacity ys port) (ownRefusals (portRow ys port) word ++ noPowerNow (leftFor capacity ys port) (portRow ys port) port word) x in
-        let rest = none-right (useRefusals capacity ys port) (ownRefusals (portRow ys port) word ++ noPowerNow (leftFor capacity ys port) (portRow ys port) port word) x in
-        let own = none-left (ownRefusals (portRow ys port) word) (noPowerNow (leftFor capacity ys port) (portRow ys port) port word) rest in
-        let left = ltb-false _ _ (none-right (ownRefusals (portRow ys port) word) (noPowerNow (leftFor capacity ys port) (portRow ys port) port word) rest .0) in
-        let p = use-port capacity ys port u in
-        let y = portRow ys port in
-        let a = attached capacity ys port u in
-        let high = held-to-P y (attached-offerable y a) word (own-accepts ys port word own) (attached-from-15 y a) in
-        let low = accepted.held-from-15 y word in
-        written-sound capacity ys (port - 1) (holding y (newHeld y word)) (port-at capacity ys port p) s
-        (holding-sound capacity ys port y (newHeld y word) a low high) (new-held port word p left)))
+pub request-keeps : RequestKeeps
+unfolding requestRows
+request-keeps capacity ys s port word r zs e =
+    subst (SoundRows capacity) (sym (e .1)) (unless (SoundRows capacity) ys (requestRefusals capacity ys port word) _ s (λ x.
+    let u = none-left (useRefusals capacity ys port) (ownRefusals (portRow ys port) word ++ noPowerNow (leftFor capacity ys port) (portRow ys port) port word) x in
+    let rest = none-right (useRefusals capacity ys port) (ownRefusals (portRow ys port) word ++ noPowerNow (leftFor capacity ys port) (portRow ys port) port word) x in
+    let own = none-left (ownRefusals (portRow ys port) word) (noPowerNow (leftFor capacity ys port) (portRow ys port) port word) rest in
+    let left = ltb-false _ _ (none-right (ownRefusals (portRow ys port) word) (noPowerNow (leftFor capacity ys port) (portRow ys port) port word) rest .0) in
+    let p = use-port capacity ys port u in
+    let y = portRow ys port in
+    let a = attached capacity ys port u in
+    let high = held-to-P y (attached-offerable y a) word (own-accepts ys port word own) (attached-from-15 y a) in
+    let low = accepted.held-from-15 y word in
+    written-sound capacity ys (port - 1) (holding y (newHeld y word)) (port-at capacity ys port p) s
+    (holding-sound capacity ys port y (newHeld y word) a low high) (new-held capacity ys port word p left)))
 
-  -- after set-up the rows are sound, whatever else the lent rows held
-  pub set-up-sounds : NoneApply (setUpRefusals capacity ys) → SoundRows capacity (map emptied ys)
-  set-up-sounds x =
-      let table = none-left (tableRefusals capacity (length ys)) (eachPlace (freshRows ys) (length ys)) x in
-      let rows = none-right (tableRefusals capacity (length ys)) (eachPlace (freshRows ys) (length ys)) x in
-      let c : length (map emptied ys) ≡ length ys = length-map ys emptied in
-      let low = capacity-low capacity ys table in
-      record {
-        each = λ k h.
-            let l : k < length ys = subst (λ (n : ℕ). k < n) c h in
-            let row = none-at (freshRows ys) (length ys) k rows l in
-            let y = rowOf ys k in
-            subst (λ (z : Row). soundRow z ≡ true) (sym (emptied-row ys k l))
-            (emptied-sound capacity ys 0 y (record {
-              max-low = at-least 15 200 (y .max .0) (row .0);
-              max-high = at-most 15 200 (y .max .0) (row .0);
-              pps-high = ltb-false 1 (y .pps) (row .1 .0);
-            }));
-        sum =
-            let e : allHeld (map emptied ys) ≡ 15 * length (map emptied ys) = all-15 (length (map emptied ys))
-            (λ k h. held-15 k (subst (λ (n : ℕ). k < n) c h)) in
-            omega (arith, e, c, low);
-      }
+pub set-up-sounds : SetUpSounds
+set-up-sounds capacity ys x =
+    let table = none-left (tableRefusals capacity (length ys)) (eachPlace (freshRows ys) (length ys)) x in
+    let rows = none-right (tableRefusals capacity (length ys)) (eachPlace (freshRows ys) (length ys)) x in
+    let c : length (map emptied ys) ≡ length ys = length-map ys emptied in
+    let low = capacity-low capacity ys table in
+    record {
+      each = λ k h.
+          let l : k < length ys = subst (λ (n : ℕ). k < n) c h in
+          let row = none-at (freshRows ys) (length ys) k rows l in
+          let y = rowOf ys k in
+          subst (λ (z : Row). soundRow z ≡ true) (sym (emptied-row ys k l))
+          (emptied-sound capacity ys 0 y (record {
+            max-low = at-least 15 200 (y .max .0) (row .0);
+            max-high = at-most 15 200 (y .max .0) (row .0);
+            pps-high = ltb-false 1 (y .pps) (row .1 .0);
+          }));
+      sum =
+          let e : allHeld (map emptied ys) ≡ 15 * length (map emptied ys) = all-15 capacity ys (length (map emptied ys))
+          (λ k h. held-15 capacity ys k (subst (λ (n : ℕ). k < n) c h)) in
+          omega (arith, e, c, low);
+    }
 
-  pub set-up-keeps : SoundRows capacity ys → (r : Verdict) (zs : List Row) → SharesSetUp ys capacity r zs → SoundRows capacity zs
-  unfolding setUpRows
-  set-up-keeps s r zs e =
-      subst (SoundRows capacity) (sym (e .1)) (unless (SoundRows capacity) ys (setUpRefusals capacity ys) (map emptied ys) s set-up-sounds)
+pub set-up-keeps : SetUpKeeps
+unfolding setUpRows
+set-up-keeps capacity ys s r zs e =
+    subst (SoundRows capacity) (sym (e .1)) (unless (SoundRows capacity) ys (setUpRefusals capacity ys) (map emptied ys) s (set-up-sounds capacity ys))

@@ -1,29 +1,31 @@
--- Places past the count are not read (01, "What the library covers"): lists that agree up to the count get the same answer.
+-- Proves the claims of specs/Unread.antt.
 -- Assumes nothing.
-use mathlib.Core.Path.{_≡_, sym, _∙_}
-use Prim.Native.Nat.{ℕ}
-use Rattle.verdicts.specs.declared.Verdict.{Verdict}
+use mathlib.Core.Path.{sym, _∙_}
 use Rattle.lists.specs.declared.Words.{Words}
 use Rattle.lists.specs.declared.Objects.{Objects}
-use Rattle.lists.specs.declared.Reading.{Reading}
-use Rattle.lists.specs.declared.Listing.{Listing}
-use Rattle.lists.proofs.Unread.{AgreeWords, AgreeObjects, shape-unread, read-unread, write-unread}
-use Rattle.rules.specs.declared.Profile.{Profile}
+use Rattle.lists.proofs.Unread as there
 use Rattle.rules.proofs.Unread.{check-unread}
 use Rattle.requests.proofs.Unread.{answer-unread}
-use Rattle.demands.proofs.Contracts.{ShapeAnswers, ReadAnswers, WriteAnswers, CheckAnswers, AnswerAnswers}
+use Rattle.demands.specs.Unread.{AgreeWords, AgreeObjects, ShapeDoesNotLook, ReadDoesNotLook, WriteDoesNotLook, CheckDoesNotLook, AnswerDoesNotLook}
 
-pub shape-does-not-look : (l m : Words) → AgreeWords l m → (r s : Verdict) → ShapeAnswers l r → ShapeAnswers m s → r ≡ s
-shape-does-not-look l m a r s e f = e ∙ shape-unread l m a ∙ sym f
+-- as the laws of `lists` have it
+pub same-words : (l m : Words) → AgreeWords l m → there.AgreeWords l m
+same-words l m a = record { count = a .count; words = a .words }
 
-pub read-does-not-look : (l m : Words) → AgreeWords l m → (r s : Reading) → ReadAnswers l r → ReadAnswers m s → r ≡ s
-read-does-not-look l m a r s e f = e ∙ read-unread l m a ∙ sym f
+pub same-objects : (o q : Objects) → AgreeObjects o q → there.AgreeObjects o q
+same-objects o q a = record { count = a .count; places = a .places }
 
-pub write-does-not-look : (o q : Objects) → AgreeObjects o q → (r s : Listing) → WriteAnswers o r → WriteAnswers q s → r ≡ s
-write-does-not-look o q a r s e f = e ∙ write-unread o q a ∙ sym f
+pub shape-does-not-look : ShapeDoesNotLook
+shape-does-not-look l m a r s e f = e ∙ there.shape-unread l m (same-words l m a) ∙ sym f
 
-pub check-does-not-look : (p : Profile) (l m : Words) → AgreeWords l m → (r s : Verdict) → CheckAnswers p l r → CheckAnswers p m s → r ≡ s
-check-does-not-look p l m a r s e f = e ∙ check-unread p l m a ∙ sym f
+pub read-does-not-look : ReadDoesNotLook
+read-does-not-look l m a r s e f = e ∙ there.read-unread l m (same-words l m a) ∙ sym f
 
-pub answer-does-not-look : (w : ℕ) (l m : Words) → AgreeWords l m → (r s : Verdict) → AnswerAnswers l w r → AnswerAnswers m w s → r ≡ s
-answer-does-not-look w l m a r s e f = e ∙ answer-unread w l m a ∙ sym f
+pub write-does-not-look : WriteDoesNotLook
+write-does-not-look o q a r s e f = e ∙ there.write-unread o q (same-objects o q a) ∙ sym f
+
+pub check-does-not-look : CheckDoesNotLook
+check-does-not-look p l m a r s e f = e ∙ check-unread p l m (same-words l m a) ∙ sym f
+
+pub answer-does-not-look : AnswerDoesNotLook
+answer-does-not-look w l m a r s e f = e ∙ answer-unread w l m (same-words l m a) ∙ sym f

@@ -1,8 +1,8 @@
--- The six wrong libraries of 01 on the rows of its marked cases: capacity 200, two ports of M 130. Each follows from `WrongLibraries`;
--- what is computed is the run, and the figures and lists after it.
+-- Proves the claims of specs/WrongInstances.antt. Each follows from `WrongLibraries`; what is computed is the run, and the figures and lists
+-- after it.
 -- Assumes nothing.
 use mathlib.Core.Path.{_≡_, refl, sym, ap, _∙_}
-use mathlib.Core.List.{List, [], _∷_}
+use mathlib.Core.List.{List, []}
 use Prim.Native.Nat.{ℕ, _-_, _<_}
 use native.Mathlib.Omega.{arith}
 use lib.ListN.{getD}
@@ -33,31 +33,20 @@ use Rattle.ports.specs.Refusing.{setUpRefusals}
 use Rattle.ports.specs.Lending.{setUpAnswer, setUpRows, attachAnswer, attachRows, requestAnswer, requestRows}
 use Rattle.board.specs.Promises.{SharesSetUp, SharesAttach, SharesRequest}
 use Rattle.demands.proofs.OneOutcome.{arin-request-settles}
-use Rattle.demands.proofs.History.{Known, figures, newFigure, changed, known, IsAttached, CanAttach, Event, attached, advertised, requested, detached, remained, Run}
-use Rattle.demands.proofs.MarkedCases.{port, two, fixed}
-use Rattle.demands.proofs.DueAnswers.{nextList, accepting}
-use Rattle.demands.proofs.NoCurrent.{noCurrent}
-use Rattle.demands.proofs.WrongLibraries.{Library, Meets, default-given, set-up-given, list-built, built-shaped, built-checked, built-read, built-written, built-answered, built-past-5-V, nothing-refused, no-current-accepted, attached-past-5-V, advertised-past-5-V, attach-changes-row, request-changes-row, detach-changes-row, no-other-list, no-other-count, no-other-power}
+use Rattle.demands.specs.MarkedCases.{fixed}
+use Rattle.demands.specs.Runs.{Event, attached, advertised, detached, remained, Run}
+use Rattle.demands.specs.Figures.{Known, figures, newFigure, changed, known, IsAttached, CanAttach}
+use Rattle.demands.specs.DueAnswers.{nextList, accepting}
+use Rattle.demands.specs.Libraries.{Library, Meets}
+use Rattle.demands.specs.WrongLibraries.{noCurrent}
+use Rattle.demands.specs.WrongInstances.{none-attached, one-attached, one-holds, list-130, first-call, both-calls, FirstCalls, NoOldList, NoOldRows, NoWrongLibrary}
+use Rattle.demands.specs.WrongInstances.{RefusesEverything, of-default, of-build, of-check, of-shape, of-read, of-write, of-answer, of-set-up, of-advertise, of-detach, of-remaining}
+use Rattle.demands.specs.WrongInstances.{ServesNoPort, no-attach, no-request, Always5V, built-5-V, attached-5-V, advertised-5-V}
+use Rattle.demands.specs.WrongInstances.{ChangesNothing, by-request, by-attach, by-detach, OnlyNods, same-list, same-rows, Invents, a-count, a-power}
+use Rattle.demands.specs.WrongInstances.{refuses-everything, serves-no-port, always-5-V, changes-nothing, only-nods, invents}
+use Rattle.demands.proofs.WrongLibraries.{default-given, set-up-given, list-built, built-shaped, built-checked, built-read, built-written, built-answered, built-past-5-V, nothing-refused, no-current-accepted, attached-past-5-V, advertised-past-5-V, attach-changes-row, request-changes-row, detach-changes-row, no-other-list, no-other-count, no-other-power}
 
--- ---- a run: set-up, port 1 is attached, and takes its power
-
-abbrev none-attached : List Row
-none-attached = two (port 0 0 15) (port 0 0 15)
-
-abbrev one-attached : List Row
-one-attached = two (port 5 130 15) (port 0 0 15)
-
-abbrev one-holds : List Row
-one-holds = two (port 5 130 130) (port 0 0 15)
-
-abbrev list-130 : Words
-list-130 = record { words = 0x0001912C ∷ 0x0002D12C ∷ 0x0004B12C ∷ 0x00064145 ∷ 0xE004B145 ∷ 0 ∷ 0 ∷ []; count = 5 }
-
-abbrev first-call : List Event
-first-call = attached 1 5 (accepting list-130) ∷ []
-
-abbrev both-calls : List Event
-both-calls = requested 1 (fixed 4 325) success ∷ first-call
+-- ---- the run
 
 set-up-then : SharesSetUp none-attached 200 success none-attached
 unfolding firstOf eachPlace emptied setUpAnswer setUpRows
@@ -77,7 +66,7 @@ set-up-alone = record { answer = success; said = set-up-then; accepted = refl }
 after-one : Run 200 none-attached first-call one-attached
 after-one = record { rows = none-attached; before = set-up-alone; call = attach-then }
 
-pub first-calls : Run 200 none-attached both-calls one-holds
+pub first-calls : FirstCalls
 first-calls = record { rows = one-attached; before = after-one; call = request-then }
 
 -- ---- what is known then, by computation
@@ -121,21 +110,19 @@ left-55 : 200 - together (figures (knows both-calls)) 2 ≡ 55
 unfolding changed together bits decodeOf upOf powerOf heldFor
 left-55 = refl
 
--- ---- 5: whatever memory the library has of its own, no answer to the next call that its contract allows is a nod: neither with the list
--- that the first port got, nor with rows that stay
+-- ---- 5, for a library with any memory of its own
 
-module _ (r : Listing) (zs : List Row) (e : SharesAttach one-holds 200 2 5 r zs) where
-  pub no-old-list : r ≡ accepting list-130 → ⊥
-  no-old-list q =
-      no-other-list 200 none-attached both-calls one-holds first-calls (attached 2 5 r) zs e free-2 list-130
-      (λ w. let z : _≡_ {A = ℕ} 0x0004B12C 0x0004B0E9 = ap (λ (l : Words). getD (l .words) 2 0) w ∙ next-15-V in absurd (omega (arith, z)))
-      (ap (λ (l : Listing). l .list) q)
+pub no-old-list : NoOldList
+no-old-list r zs e q =
+    no-other-list 200 none-attached both-calls one-holds first-calls (attached 2 5 r) zs e free-2 list-130
+    (λ w. let z : _≡_ {A = ℕ} 0x0004B12C 0x0004B0E9 = ap (λ (l : Words). getD (l .words) 2 0) w ∙ next-15-V in absurd (omega (arith, z)))
+    (ap (λ (l : Listing). l .list) q)
 
-  pub no-old-rows : zs ≡ one-holds → ⊥
-  no-old-rows q =
-      attach-changes-row 200 none-attached both-calls one-holds first-calls 2 5 r zs e free-2 (ap (λ (xs : List Row). portRow xs 2) q)
+pub no-old-rows : NoOldRows
+no-old-rows r zs e q =
+    attach-changes-row 200 none-attached both-calls one-holds first-calls 2 5 r zs e free-2 (ap (λ (xs : List Row). portRow xs 2) q)
 
--- 36 W, the listing of 01
+-- 36 W, the first of the worked cases
 abbrev listing : Profile
 listing = record { max = halfWatts 72; present = halfWatts 72; cable = 3; rounding = 0; pps = 1; flags = 0 }
 
@@ -150,7 +137,7 @@ not-one : (n : ℕ) → 1 < n → n ≡ 1 → ⊥
 not-one n h e = absurd (omega arith)
 
 module _ (l : Library) (m : Meets l) where
-  -- ---- 1: "a library that refuses everything": no call of it may refuse every input
+  -- ---- 1
 
   pub default-accepts : ((n : ℕ) → l .default n .verdict ≡ success → ⊥) → ⊥
   default-accepts f = f 72 (default-given l m 72 (omega arith) (omega arith))
@@ -191,7 +178,7 @@ module _ (l : Library) (m : Meets l) where
   remaining-accepts f =
       f one-holds 200 (nothing-refused 200 none-attached both-calls one-holds first-calls (remained _) _ (m .remains one-holds 200, refl) tt)
 
-  -- ---- 2: "one that attaches no port or accepts no shared request"
+  -- ---- 2
 
   pub attach-accepts : ((ys : List Row) (capacity port cable : ℕ) → l .attach ys capacity port cable .0 .verdict ≡ success → ⊥) → ⊥
   attach-accepts f =
@@ -203,7 +190,7 @@ module _ (l : Library) (m : Meets l) where
       f one-attached 200 1 noCurrent
       (no-current-accepted 200 none-attached first-call one-attached after-one 1 _ _ (m .requests one-attached 200 1 noCurrent) in-use-1)
 
-  -- ---- 3: "one that returns the 5 V list each time": a list of one word
+  -- ---- 3
 
   pub build-past-5-V : ((p : Profile) → l .build p .list .count ≡ 1) → ⊥
   build-past-5-V f = not-one _ (built-past-5-V l m listing listing-builds (omega arith)) (f listing)
@@ -220,7 +207,7 @@ module _ (l : Library) (m : Meets l) where
       (advertised-past-5-V 200 none-attached both-calls one-holds first-calls 1 _ _ (m .advertises one-holds 200 1) still-in-use-1 (omega arith))
       (f one-holds 200 1)
 
-  -- ---- 4: "one that ignores requests or never changes a row"
+  -- ---- 4
 
   pub request-changes : ((ys : List Row) (capacity port word : ℕ) → l .request ys capacity port word .1 ≡ ys) → ⊥
   request-changes f =
@@ -241,7 +228,7 @@ module _ (l : Library) (m : Meets l) where
       detach-changes-row 200 none-attached both-calls one-holds first-calls 1 _ _ (m .detaches one-holds 200 1) still-in-use-1
       (ap (λ (xs : List Row). portRow xs 1) (f one-holds 200 1))
 
-  -- ---- 5, for a library without a memory
+  -- ---- 5
 
   pub no-same-list : l .attach one-holds 200 2 5 .0 ≡ accepting list-130 → ⊥
   no-same-list = no-old-list _ _ (m .attaches one-holds 200 2 5)
@@ -249,7 +236,7 @@ module _ (l : Library) (m : Meets l) where
   pub no-mere-nod : l .attach one-holds 200 2 5 .1 ≡ one-holds → ⊥
   no-mere-nod = no-old-rows _ _ (m .attaches one-holds 200 2 5)
 
-  -- ---- 6: "one with invented list counts or remaining power": any other count, any other power
+  -- ---- 6
 
   pub no-invented-count : (n : ℕ) → (n ≡ 5 → ⊥) → l .attach none-attached 200 1 5 .0 .list .count ≡ n → ⊥
   no-invented-count n f =
@@ -260,3 +247,48 @@ module _ (l : Library) (m : Meets l) where
   no-invented-power n f =
       no-other-power 200 none-attached both-calls one-holds first-calls (l .remaining one-holds 200) (m .remains one-holds 200) n
       (λ e. f (e ∙ left-55))
+
+  -- ---- each of the six
+
+  none-1 : RefusesEverything l → ⊥
+  none-1 (of-default f) = default-accepts f
+  none-1 (of-build f) = build-accepts f
+  none-1 (of-check f) = check-accepts f
+  none-1 (of-shape f) = shape-accepts f
+  none-1 (of-read f) = read-accepts f
+  none-1 (of-write f) = write-accepts f
+  none-1 (of-answer f) = answer-accepts f
+  none-1 (of-set-up f) = set-up-accepts f
+  none-1 (of-advertise f) = advertise-accepts f
+  none-1 (of-detach f) = detach-accepts f
+  none-1 (of-remaining f) = remaining-accepts f
+
+  none-2 : ServesNoPort l → ⊥
+  none-2 (no-attach f) = attach-accepts f
+  none-2 (no-request f) = request-accepts f
+
+  none-3 : Always5V l → ⊥
+  none-3 (built-5-V f) = build-past-5-V f
+  none-3 (attached-5-V f) = attach-past-5-V f
+  none-3 (advertised-5-V f) = advertise-past-5-V f
+
+  none-4 : ChangesNothing l → ⊥
+  none-4 (by-request f) = request-changes f
+  none-4 (by-attach f) = attach-changes f
+  none-4 (by-detach f) = detach-changes f
+
+  none-5 : OnlyNods l → ⊥
+  none-5 (same-list e) = no-same-list e
+  none-5 (same-rows e) = no-mere-nod e
+
+  none-6 : Invents l → ⊥
+  none-6 (a-count n f e) = no-invented-count n f e
+  none-6 (a-power n f e) = no-invented-power n f e
+
+pub no-wrong-library : NoWrongLibrary
+no-wrong-library l m (refuses-everything w) = none-1 l m w
+no-wrong-library l m (serves-no-port w) = none-2 l m w
+no-wrong-library l m (always-5-V w) = none-3 l m w
+no-wrong-library l m (changes-nothing w) = none-4 l m w
+no-wrong-library l m (only-nods w) = none-5 l m w
+no-wrong-library l m (invents w) = none-6 l m w

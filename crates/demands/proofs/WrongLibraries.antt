@@ -1,6 +1,4 @@
--- The six wrong libraries of 01 ("What the contracts settle"), in general: no library with such answers meets the contracts.
--- Lists are said of a `Library`, every call of which meets its contract. Sharing is said after every run, of any answer and any rows that
--- the contract of the next call allows: so of a library with any memory of its own. `WrongInstances` has the rows of the marked cases.
+-- Proves the claims of specs/WrongLibraries.antt, on lists from demands 1 and 2, on sharing from what calls are due after a run.
 -- Assumes nothing.
 use mathlib.Core.Path.{_≡_, refl, sym, ap, _∙_, subst}
 use mathlib.Core.Bool.{false, _||_, true≢false}
@@ -23,67 +21,33 @@ use Rattle.rules.specs.declared.Profiled.{Profiled}
 use Rattle.rules.specs.Profiles.{halfWatts, badCable, buildRefusals, defaults, defaultRefusals, defaultOf, profileRefused}
 use Rattle.rules.specs.Building.{builtCount, builtWords}
 use Rattle.rules.proofs.Builds.{build-clear}
-use Rattle.flat.specs.declared.FlatObjects.{FlatObjects}
-use Rattle.flat.specs.declared.FlatReading.{FlatReading}
 use Rattle.ports.specs.declared.Row.{Row}
 use Rattle.ports.specs.declared.RemainingPower.{RemainingPower}
 use Rattle.ports.specs.Rows.{portRow, together}
 use Rattle.ports.specs.Refusing.{setUpRefusals}
 use Rattle.ports.proofs.Sound.{either-cable, cable-not-0}
 use Rattle.ports.proofs.Sums.{others-at-most}
-use Rattle.board.specs.Promises.{SharesSetUp, SharesAttach, SharesAdvertise, SharesRequest, SharesDetach, SharesRemaining}
-use Rattle.demands.proofs.FlatContracts.{ArinDefaultAnswers, ArinBuildAnswers, ArinCheckAnswers, ArinShapeAnswers, ArinReadAnswers, ArinWriteAnswers, ArinAnswerAnswers}
+use Rattle.board.specs.Promises.{SharesAttach, SharesAdvertise, SharesRequest, SharesDetach, SharesRemaining}
+use Rattle.demands.specs.FlatContracts.{ArinShapeAnswers}
+use Rattle.demands.specs.Runs.{Event, attached, advertised, requested, detached, Step, Run}
+use Rattle.demands.specs.Figures.{Known, empty, figures, smaller, newFigure, maxOf, known, IsAttached, CanAttach}
+use Rattle.demands.specs.DueAnswers.{ToAccept, due, verdictIn, listIn, Same}
+use Rattle.demands.specs.Libraries.{Library, Meets}
+use Rattle.demands.specs.WrongLibraries.{noCurrent, ListsServed, BuiltServed, SharingServed}
 use Rattle.demands.proofs.SharingRefusals.{set-up-refusals}
 use Rattle.demands.proofs.FlatRefusals.{arin-default-refusals, arin-build-refusals, arin-shape-refusals, arin-answer-refusals}
 use Rattle.demands.proofs.RoundTrips.{read-then-write}
 use Rattle.demands.proofs.FlatRoundTrips.{arin-read-then-write}
 use Rattle.demands.proofs.PowerRules.{built-passes, built-returns}
 use Rattle.demands.proofs.BuiltLists.{BuiltFor, for-shaped, for-typed, for-past-5-V}
-use Rattle.demands.proofs.NoCurrent.{noCurrent, no-current-clear, no-current-allowed, no-current-holds-15}
-use Rattle.demands.proofs.History.{Known, empty, figures, smaller, newFigure, maxOf, known, IsAttached, CanAttach, Event, attached, advertised, requested, detached, Step, Run}
+use Rattle.demands.proofs.NoCurrent.{no-current-clear, no-current-allowed, no-current-holds-15}
 use Rattle.demands.proofs.Demand3.{demand-3}
-use Rattle.demands.proofs.DueAnswers.{ToAccept, due, verdictIn, listIn, Same, told, last-list, figure-from-15, row-stays, due-answer, accepted-exactly}
-
--- ---- a library: every call under its C name; it meets its contracts where each call does, for every input
-
-pub record Library : Type 0 where
-  pub default : ℕ → Profiled
-  pub build : Profile → Listing
-  pub check : Profile → Words → Verdict
-  pub shape : Words → Verdict
-  pub read : Words → FlatReading
-  pub write : FlatObjects → Listing
-  pub answer : Words → ℕ → Verdict
-  pub set-up : List Row → ℕ → Verdict × List Row
-  pub attach : List Row → ℕ → ℕ → ℕ → Listing × List Row
-  pub advertise : List Row → ℕ → ℕ → Listing × List Row
-  pub request : List Row → ℕ → ℕ → ℕ → Verdict × List Row
-  pub detach : List Row → ℕ → ℕ → Verdict × List Row
-  pub remaining : List Row → ℕ → RemainingPower
-
-pub record Meets (l : Library) : Type 0 where
-  pub defaults : (m : ℕ) → ArinDefaultAnswers m (l .default m)
-  pub builds : (p : Profile) → ArinBuildAnswers p (l .build p)
-  pub checks : (p : Profile) (w : Words) → ArinCheckAnswers p w (l .check p w)
-  pub shapes : (w : Words) → ArinShapeAnswers w (l .shape w)
-  pub reads : (w : Words) → ArinReadAnswers w (l .read w)
-  pub writes : (f : FlatObjects) → ArinWriteAnswers f (l .write f)
-  pub answers : (w : Words) (word : ℕ) → ArinAnswerAnswers w word (l .answer w word)
-  pub sets-up : (ys : List Row) (capacity : ℕ) → SharesSetUp ys capacity (l .set-up ys capacity .0) (l .set-up ys capacity .1)
-  pub attaches : (ys : List Row) (capacity port cable : ℕ) → SharesAttach ys capacity port cable (l .attach ys capacity port cable .0)
-      (l .attach ys capacity port cable .1)
-  pub advertises : (ys : List Row) (capacity port : ℕ) → SharesAdvertise ys capacity port (l .advertise ys capacity port .0)
-      (l .advertise ys capacity port .1)
-  pub requests : (ys : List Row) (capacity port word : ℕ) → SharesRequest ys capacity port word (l .request ys capacity port word .0)
-      (l .request ys capacity port word .1)
-  pub detaches : (ys : List Row) (capacity port : ℕ) → SharesDetach ys capacity port (l .detach ys capacity port .0) (l .detach ys capacity port .1)
-  pub remains : (ys : List Row) (capacity : ℕ) → SharesRemaining ys capacity (l .remaining ys capacity)
+use Rattle.demands.proofs.DueAnswers.{told, last-list, figure-from-15, row-stays, due-answer, accepted-exactly}
 
 -- ---- on lists, and set-up
 
 module _ (l : Library) (m : Meets l) where
-  -- ---- 1: "a library that refuses everything (shut out by demands 1 and 2 ..)". What no refusal applies to is accepted: each M of 1 to 200
-  -- has a default profile, each profile without a refusal is built, and every other call on lists takes what is built
+  -- ---- 1, a library that refuses everything
 
   pub default-given : (n : ℕ) → 1 ≤ n → n ≤ 200 → l .default n .verdict ≡ success
   default-given n low high = arin-default-refusals n (l .default n) (m .defaults n) .0 .0 .1 (inside 1 200 n low high, tt)
@@ -135,12 +99,12 @@ module _ (l : Library) (m : Meets l) where
         arin-answer-refusals built noCurrent (l .answer built noCurrent) (m .answers built noCurrent) .0 .1
         (no-current-clear built (for-shaped (p .max .0) built built-for))
 
-    -- ---- 3: "one that returns the 5 V list each time (demand 2, the rule list)"
+    -- ---- 3, one that always gives the 5 V list
 
     pub built-past-5-V : 30 < p .max .0 → 1 < l .build p .list .count
     built-past-5-V = for-past-5-V (p .max .0) built built-for
 
-    -- ---- 6: "one with invented list counts .. (demands 2 ..)": the count is that of the tables
+    -- ---- 6, one that invents counts
 
     pub no-other-built-count : (n : ℕ) → (n ≡ builtCount p → ⊥) → l .build p .list .count ≡ n → ⊥
     no-other-built-count n f e = f (sym e ∙ ap (λ (w : Words). w .count) list-is)
@@ -155,6 +119,21 @@ module _ (l : Library) (m : Meets l) where
       (subst (λ (r : Profiled). NoneApply (buildRefusals (r .profile))) (sym e)
       (given, (inside 1 n n low (omega arith), (refl, (refl, (refl, (refl, tt)))))))
 
+pub lists-served : ListsServed
+lists-served l m = record { default-given = default-given l m; default-builds = default-builds l m; set-up-given = set-up-given l m }
+
+pub built-served : BuiltServed
+built-served l m p clear = record {
+  list-built = list-built l m p clear;
+  built-shaped = built-shaped l m p clear;
+  built-checked = built-checked l m p clear;
+  built-read = built-read l m p clear;
+  built-written = built-written l m p clear;
+  built-answered = built-answered l m p clear;
+  built-past-5-V = built-past-5-V l m p clear;
+  no-other-built-count = no-other-built-count l m p clear;
+}
+
 -- ---- on sharing: `Step` at a library's own answers is what `Meets` says
 
 cable-in-use : (cable : ℕ) → badCable cable ≡ false → eqb cable 0 ≡ false
@@ -167,13 +146,11 @@ module _ (capacity : ℕ) (start : List Row) (es : List Event) (ys : List Row) (
   abbrev count : ℕ
   count = length start
 
-  -- ---- 1 and 2: ".. and 36 in demand 3"; "one that attaches no port or accepts no shared request (demand 1)". What is to be accepted is
-  -- accepted: a port that can be attached is attached, a request that the list allows and the power is there for is accepted ..
+  -- ---- 1 and 2, one that refuses everything, attaches no port or accepts no shared request
 
   pub nothing-refused : (e : Event) (zs : List Row) → Step capacity ys e zs → ToAccept capacity count h e → verdictIn e ≡ success
   nothing-refused e zs s = accepted-exactly capacity start es ys run e zs s .1
 
-  -- .. and every attached port has such a request
   pub no-current-accepted : (port : ℕ) (r : Verdict) (zs : List Row) → SharesRequest ys capacity port noCurrent r zs → IsAttached count h port
       → r ≡ success
   no-current-accepted port r zs s a =
@@ -205,7 +182,7 @@ module _ (capacity : ℕ) (start : List Row) (es : List Event) (ys : List Row) (
     told-same low high stays =
         subst (Same (h (port - 1))) t (row-stays capacity start es ys run e zs s (port - 1) (omega (arith, low, high)) stays)
 
-  -- ---- 3: "one that returns the 5 V list each time (.. the rule list)"
+  -- ---- 3, one that always gives the 5 V list
 
   pub attached-past-5-V : (port cable : ℕ) (r : Listing) (zs : List Row) → SharesAttach ys capacity port cable r zs → CanAttach count h port cable
       → 30 < maxOf start (port - 1) → 1 < r .list .count
@@ -219,8 +196,7 @@ module _ (capacity : ℕ) (start : List Row) (es : List Event) (ys : List Row) (
       told-past-5-V (advertised port r) zs s port _ (told (r .verdict) port _ h (nothing-refused (advertised port r) zs s a))
       (a .from-1) (a .to-count) (a .cabled)
 
-  -- ---- 4: "one that ignores requests or never changes a row (demand 3, the next list)". A request that is accepted with another figure
-  -- changes the row of its port; so does each attach, each detach, and an advertise at another P
+  -- ---- 4, one that ignores requests or never changes a row
 
   pub request-changes-row : (port word : ℕ) (r : Verdict) (zs : List Row) → SharesRequest ys capacity port word r zs → r ≡ success
       → (newFigure h port word ≡ h (port - 1) .figure → ⊥) → portRow zs port ≡ portRow ys port → ⊥
@@ -249,8 +225,7 @@ module _ (capacity : ℕ) (start : List Row) (es : List Event) (ys : List Row) (
       true≢false (ap (λ (n : ℕ). eqb n 0) (same .cable) ∙ a .cabled)
 
   module _ (e : Event) (zs : List Row) (s : Step capacity ys e zs) where
-    -- ---- 5: "one that serves the first call of a run and afterwards only nods (demand 3)". It accepts nothing that is to be refused; what
-    -- it accepts has no list but the next one; and rows change as in 4
+    -- ---- 5, one that serves the first call of a run and afterwards only nods; its rows change as in 4
 
     pub no-nod : (ToAccept capacity count h e → ⊥) → verdictIn e ≡ success → ⊥
     no-nod f q = f (accepted-exactly capacity start es ys run e zs s .0 q)
@@ -262,12 +237,27 @@ module _ (capacity : ℕ) (start : List Row) (es : List Event) (ys : List Row) (
       pub no-other-list : (old : Words) → (old ≡ listIn (due capacity start h e) → ⊥) → listIn e ≡ old → ⊥
       no-other-list old f q = f (sym q ∙ as-due)
 
-      -- ---- 6: "one with invented list counts or remaining power (demands .. 3)": any count but that of the rule list ..
+      -- ---- 6, one that invents counts or remaining power
 
       pub no-other-count : (n : ℕ) → (n ≡ listIn (due capacity start h e) .count → ⊥) → listIn e .count ≡ n → ⊥
       no-other-count n f q = f (sym q ∙ ap (λ (w : Words). w .count) as-due)
 
-  -- .. any power but capacity less the figures
   pub no-other-power : (r : RemainingPower) → SharesRemaining ys capacity r → (n : ℕ) → (n ≡ capacity - together (figures h) count → ⊥)
       → r .power .0 ≡ n → ⊥
   no-other-power r s n f q = f (sym q ∙ ap (λ (x : RemainingPower). x .power .0) (demand-3 capacity start es ys run .remaining-power r s))
+
+pub sharing-served : SharingServed
+sharing-served capacity start es ys run = record {
+  nothing-refused = nothing-refused capacity start es ys run;
+  no-current-accepted = no-current-accepted capacity start es ys run;
+  attached-past-5-V = attached-past-5-V capacity start es ys run;
+  advertised-past-5-V = advertised-past-5-V capacity start es ys run;
+  request-changes-row = request-changes-row capacity start es ys run;
+  attach-changes-row = attach-changes-row capacity start es ys run;
+  advertise-changes-row = advertise-changes-row capacity start es ys run;
+  detach-changes-row = detach-changes-row capacity start es ys run;
+  no-nod = no-nod capacity start es ys run;
+  no-other-list = no-other-list capacity start es ys run;
+  no-other-count = no-other-count capacity start es ys run;
+  no-other-power = no-other-power capacity start es ys run;
+}

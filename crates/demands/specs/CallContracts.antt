@@ -1,6 +1,7 @@
 -- The contract of each public call, by name: `ShapeAnswers l r` says that the contract of `shape` allows the answer r at the list l.
--- It is the clause of the source itself, as the prover reads it (`Post` of the arguments, the answer and the arguments at exit).
--- The clauses of the calls over lent rows are the names of `board`'s specs/Promises.antt themselves.
+-- Each name is the clause of the source itself, as the prover reads it: `Post` of the arguments, the answer and the arguments at exit.
+-- Nothing is claimed here; every claim of this folder speaks of the calls by these names, by those of FlatContracts, and, for the calls
+-- over lent rows, by the names that are their clauses (crates/board/specs/Promises.antt).
 -- Assumes nothing.
 use mathlib.Core.Bool.{Bool}
 use Prim.Native.Nat.{ℕ}

@@ -1,4 +1,5 @@
--- The contract of each call over flat objects and of each call under its C name, as in `Contracts`.
+-- The contract of each call over flat objects, the form in which C takes objects, and of each call on lists under its C name. As in
+-- CallContracts each name is the clause of the source itself. Nothing is claimed here.
 -- Assumes nothing.
 use Prim.Native.Nat.{ℕ}
 use Rattle.verdicts.specs.declared.Verdict.{Verdict}

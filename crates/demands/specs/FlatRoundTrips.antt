@@ -1,0 +1,54 @@
+-- Demand 2, what is read and written, as C has it: an object goes into its flat form and back, and a list from words to flat objects and back.
+-- A list comes back as it was up to its count, and zero past it. Each claim is proved by the theorem of its name in small letters in
+-- proofs/FlatRoundTrips.antt.
+-- Assumes nothing.
+use mathlib.Core.Path.{_≡_}
+use Prim.Native.Nat.{ℕ, _≤_}
+use lib.ListN.{getD}
+use Rattle.verdicts.specs.Refusals.{success}
+use Rattle.objects.specs.declared.Object.{Object}
+use Rattle.lists.specs.declared.Words.{Words}
+use Rattle.lists.specs.declared.Listing.{Listing}
+use Rattle.lists.specs.Kept.{keptWords}
+use Rattle.flat.specs.declared.FlatObject.{FlatObject}
+use Rattle.flat.specs.declared.FlatObjects.{FlatObjects}
+use Rattle.flat.specs.declared.FlatReading.{FlatReading}
+use Rattle.flat.specs.declared.Raised.{Raised}
+use Rattle.flat.specs.declared.Raised.the-variants.{Known}
+use Rattle.flat.specs.Flat.{ownFields}
+use Rattle.flat.specs.Reading.{emptyFlat}
+use Rattle.flat.specs.Kept.{keptFlat}
+use Rattle.demands.specs.RoundTrips.{Words32}
+use Rattle.demands.specs.FlatContracts.{FlattenAnswers, RaiseAnswers, ArinShapeAnswers, ArinReadAnswers, ArinWriteAnswers}
+
+-- ---- one object
+
+-- what was flattened is raised to the same object
+abbrev pub FlattenThenRaise : Type 0
+FlattenThenRaise = (o : Object) (x : FlatObject) → FlattenAnswers o x → (r : Raised) → RaiseAnswers x r → r ≡ Known o
+
+-- what was raised is flattened to the same flat object, where the fields that its kind does not have are zero
+abbrev pub RaiseThenFlatten : Type 0
+RaiseThenFlatten =
+    (x : FlatObject) → ownFields x ≡ x → (o : Object) → RaiseAnswers x (Known o) → (y : FlatObject) → FlattenAnswers o y → y ≡ x
+
+-- ---- a list
+
+-- a list whose shape passes reads and writes back to the same words, zero past the count
+abbrev pub ArinReadThenWrite : Type 0
+ArinReadThenWrite =
+    (l : Words) → Words32 l → ArinShapeAnswers l success
+    → (r : FlatReading) → ArinReadAnswers l r → (w : Listing) → ArinWriteAnswers (r .list) w
+    → (r .verdict ≡ success) × (w ≡ record { verdict = success; list = keptWords l })
+
+-- a flat list that is written reads back to the own fields of its objects, zero past the count
+abbrev pub ArinWriteThenRead : Type 0
+ArinWriteThenRead =
+    (f : FlatObjects) (w : Listing) → ArinWriteAnswers f w → w .verdict ≡ success
+    → (r : FlatReading) → ArinReadAnswers (w .list) r → r ≡ record { verdict = success; list = keptFlat f }
+
+-- past the count a list that was read has fixed objects with all fields zero; objects are looked up from 0 on, so the first past the count
+-- stands at the count
+abbrev pub ArinReadPast : Type 0
+ArinReadPast =
+    (l : Words) (r : FlatReading) → ArinReadAnswers l r → (k : ℕ) → r .list .count ≤ k → getD (r .list .places) k emptyFlat ≡ emptyFlat

@@ -1,0 +1,55 @@
+-- Demand 2, the power rules: every list that is built for a profile passes the rule check for that profile, and reads and writes back to
+-- itself. Of each current it is said plainly when the rule check allows it. Each claim is proved by the theorem of its name in small letters
+-- (`built-passes` is `BuiltPasses`) in proofs/PowerRules.antt (docs/STATEMENT.md, "Power rules").
+-- Assumes nothing.
+use mathlib.Core.Path.{_≡_}
+use mathlib.Core.Bool.{true}
+use mathlib.Core.Logic.{_↔_, _⊎_}
+use Prim.Native.Nat.{ℕ, _*_, _≤_, _<_, min}
+use Rattle.verdicts.specs.declared.Verdict.{Verdict}
+use Rattle.verdicts.specs.Refusals.{success}
+use Rattle.lists.specs.declared.Reading.{Reading}
+use Rattle.lists.specs.declared.Listing.{Listing}
+use Rattle.rules.specs.declared.Profile.{Profile}
+use Rattle.rules.specs.Currents.{downAt, upAt, cable10mA, fixedAllowed, progDown, cable50mA, progCurrent, mayExceed, progAllowed}
+use Rattle.demands.specs.CallContracts.{ReadAnswers, WriteAnswers, BuildAnswers, CheckAnswers}
+
+-- ---- what is built
+
+-- every list built for a profile passes the rule check for that profile
+abbrev pub BuiltPasses : Type 0
+BuiltPasses =
+    (p : Profile) (b : Listing) → BuildAnswers p b → b .verdict ≡ success → (v : Verdict) → CheckAnswers p (b .list) v → v ≡ success
+
+-- and reads, and writes back to the same list
+abbrev pub BuiltReturns : Type 0
+BuiltReturns =
+    (p : Profile) (b : Listing) → BuildAnswers p b → b .verdict ≡ success
+    → (r : Reading) → ReadAnswers (b .list) r → (w : Listing) → WriteAnswers (r .list) w → (r .verdict ≡ success) × (w ≡ b)
+
+-- ---- which currents are allowed, exactly when: a is a current in 10 mA, in 50 mA for PPS
+
+-- at 20 V: either rounding, cut to the cable
+abbrev pub AllowedAt20V : Type 0
+AllowedAt20V =
+    (p : Profile) (volts a : ℕ) → volts ≡ 20
+    → (fixedAllowed p volts a ≡ true) ↔ ((a ≡ min (downAt p volts) (cable10mA p)) ⊎ (a ≡ min (upAt p volts) (cable10mA p)))
+
+-- at 5, 9 and 15 V, where P exceeds 6 times the volts: from 3 A to the smaller of cable and the quotient rounded up
+abbrev pub AllowedPast3A : Type 0
+AllowedPast3A =
+    (p : Profile) (volts a : ℕ) → (volts ≡ 20 → ⊥) → 6 * volts < p .present .0
+    → (fixedAllowed p volts a ≡ true) ↔ ((300 ≤ a) × (a ≤ min (upAt p volts) (cable10mA p)))
+
+-- else the quotient rounded either way
+abbrev pub AllowedTo3A : Type 0
+AllowedTo3A =
+    (p : Profile) (volts a : ℕ) → (volts ≡ 20 → ⊥) → p .present .0 ≤ 6 * volts
+    → (fixedAllowed p volts a ≡ true) ↔ ((a ≡ downAt p volts) ⊎ (a ≡ upAt p volts))
+
+-- PPS: the built figure, or, in two ranges of M, more, up to the smaller of cable and the rounded-down quotient
+abbrev pub ProgAllowedExactly : Type 0
+ProgAllowedExactly =
+    (p : Profile) (volts a : ℕ)
+    → (progAllowed p volts a ≡ true)
+    ↔ ((a ≡ progCurrent p volts) ⊎ ((mayExceed (p .max .0) volts ≡ true) × ((progCurrent p volts ≤ a) × (a ≤ min (progDown p volts) (cable50mA p)))))

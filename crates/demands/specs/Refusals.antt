@@ -1,0 +1,75 @@
+-- Demand 1, refusals: a call gives number n with its place exactly when refusal n applies there and none before it in the order does, and it
+-- succeeds exactly when none applies. On a refusal all else in the answer is zero. Each claim is proved by the theorem of its name in small
+-- letters (`shape-refusals` is `ShapeRefusals`) in proofs/Refusals.antt.
+-- The table of each call, in the order of docs/STATEMENT.md, "Refusal numbers", is in specs/ of `lists`, `rules` and `requests`. `NoneApply rs`
+-- says that no row of the table rs applies, `First rs n p` that a row with number n and place p does and none before it
+-- (crates/verdicts/proofs/First.antt). A place in a verdict counts from 1, and is 0 where a refusal has no place.
+-- Calls whose answer is an enum are in EnumRefusals, those of C in FlatRefusals, those over rows in SharingRefusals.
+-- Assumes nothing.
+use mathlib.Core.Path.{_≡_}
+use mathlib.Core.List.{List}
+use mathlib.Core.Logic.{_↔_}
+use Prim.Native.Nat.{ℕ}
+use Rattle.verdicts.specs.declared.Verdict.{Verdict}
+use Rattle.verdicts.specs.Refusals.{Refusal, verdict, success}
+use Rattle.verdicts.proofs.First.{NoneApply, First}
+use Rattle.steps.specs.declared.HalfWatts.{HalfWatts}
+use Rattle.objects.specs.declared.Object.{Object}
+use Rattle.lists.specs.declared.Words.{Words}
+use Rattle.lists.specs.declared.Objects.{Objects}
+use Rattle.lists.specs.declared.Reading.{Reading}
+use Rattle.lists.specs.declared.Listing.{Listing}
+use Rattle.lists.specs.Shape.{shapeRefusals}
+use Rattle.lists.specs.Reading.{noObjects}
+use Rattle.lists.specs.Writing.{noWords, writeRefusals}
+use Rattle.rules.specs.declared.Profile.{Profile}
+use Rattle.rules.specs.declared.Profiled.{Profiled}
+use Rattle.rules.specs.Profiles.{noProfile, defaultRefusals, buildRefusals}
+use Rattle.rules.specs.Checking.{checkRefusals}
+use Rattle.requests.specs.Judging.{refusalsOf}
+use Rattle.requests.specs.Answering.{answerRefusals}
+use Rattle.demands.specs.CallContracts.{ShapeAnswers, ReadAnswers, WriteAnswers, DefaultAnswers, BuildAnswers, CheckAnswers, AnswerAnswers, JudgeAnswers}
+
+-- a verdict answers a table: success exactly when no row applies, and a row's number and place exactly when it is the first that applies
+abbrev pub Answers : Verdict → List Refusal → Type 0
+Answers v rs = (v ≡ success ↔ NoneApply rs) × ((n p : ℕ) → (n ≡ 0 → ⊥) → v ≡ verdict n p ↔ First rs n p)
+
+-- ---- lists
+
+abbrev pub ShapeRefusals : Type 0
+ShapeRefusals = (l : Words) (r : Verdict) → ShapeAnswers l r → Answers r (shapeRefusals l)
+
+-- reading refuses as the shape check does, and gives an empty list with it
+abbrev pub ReadRefusals : Type 0
+ReadRefusals =
+    (l : Words) (r : Reading) → ReadAnswers l r
+    → Answers (r .verdict) (shapeRefusals l) × ((r .verdict ≡ success → ⊥) → r .list ≡ noObjects)
+
+abbrev pub WriteRefusals : Type 0
+WriteRefusals =
+    (o : Objects) (r : Listing) → WriteAnswers o r
+    → Answers (r .verdict) (writeRefusals o) × ((r .verdict ≡ success → ⊥) → r .list ≡ noWords)
+
+-- ---- rules
+
+abbrev pub DefaultRefusals : Type 0
+DefaultRefusals =
+    (m : HalfWatts) (r : Profiled) → DefaultAnswers m r
+    → Answers (r .verdict) (defaultRefusals m) × ((r .verdict ≡ success → ⊥) → r .profile ≡ noProfile)
+
+abbrev pub BuildRefusals : Type 0
+BuildRefusals =
+    (p : Profile) (r : Listing) → BuildAnswers p r
+    → Answers (r .verdict) (buildRefusals p) × ((r .verdict ≡ success → ⊥) → r .list ≡ noWords)
+
+abbrev pub CheckRefusals : Type 0
+CheckRefusals = (p : Profile) (l : Words) (r : Verdict) → CheckAnswers p l r → Answers r (checkRefusals p l)
+
+-- ---- requests
+
+abbrev pub AnswerRefusals : Type 0
+AnswerRefusals = (l : Words) (w : ℕ) (r : Verdict) → AnswerAnswers l w r → Answers r (answerRefusals l w)
+
+-- one object and no list: its rows alone
+abbrev pub JudgeRefusals : Type 0
+JudgeRefusals = (o : Object) (w : ℕ) (r : Verdict) → JudgeAnswers o w r → Answers r (refusalsOf o w)
