@@ -81,7 +81,7 @@ Decode12 =
     (w : ℕ) (r : Decoded) → DecodeAnswers w r
     → OneRefusal zeroObject 12 ((bits w 31 30 ≡ 3) × ((bits w 29 28 ≡ 1) ⊎ (bits w 29 28 ≡ 3))) (decodedSays r)
 
--- 7 exactly where a field is too wide for its bits
+-- 7 exactly where a field does not fit its bits
 abbrev pub Encode7 : Type 0
 Encode7 = (o : Object) (r : Encoded) → EncodeAnswers o r → OneRefusal 0 7 (allFit (fieldsOf o) ≡ false) (encodedSays r)
 

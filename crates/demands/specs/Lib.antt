@@ -1,7 +1,11 @@
+-- What a reader of the demands has to believe, in the order to read it. A claim is a type with a name, as `ShapeRefusals`; the theorem of that
+-- name in small letters, `shape-refusals : ShapeRefusals`, proves it, in the file of proofs/ with the same name. Where it is otherwise, the head of
+-- the file says so. `tools/claims.py` sees to it that no claim stands here without its theorem.
+
 -- What the calls promise, by name
 pub mod CallContracts
 pub mod FlatContracts
--- Demand 1: refusals
+-- Demand 1, refusals: the first refusal that applies is given, with its place, and nothing else with it
 pub mod Refusals
 pub mod EnumRefusals
 pub mod FlatRefusals
@@ -10,7 +14,7 @@ pub mod DecidingRefusals
 pub mod ManyRows
 pub mod NoKindOrder
 pub mod NoKindCases
--- Demand 2: words, lists and rules
+-- Demand 2, words, lists and rules: what is read writes back, what is built passes, and each limit is where the statement has it
 pub mod KindsAgree
 pub mod RoundTrips
 pub mod FlatRoundTrips
@@ -21,13 +25,13 @@ pub mod RuleLists
 pub mod RequestNumbers
 pub mod At15V
 pub mod MarkedCases
--- Demand 3: ports over whole runs
+-- Demand 3, shared ports over whole runs: what holds after any calls, good or bad
 pub mod SoundRows
 pub mod Runs
 pub mod Figures
 pub mod AfterRun
 pub mod DueAnswers
--- What the contracts settle
+-- What the contracts settle: one outcome for each input, and no wrong library
 pub mod OneOutcome
 pub mod FlatOutcomes
 pub mod Libraries

@@ -1,5 +1,5 @@
--- An object of no kind in a list that C writes, that is one whose kind number is above 4: it has no field too wide, so 7 is not for it. Where
--- no other object has such a field, the answer is 11 if it stands first, and else 12 at its place once no word before it is refused.
+-- An object of no kind in a list that C writes, that is one whose kind number is above 4: all its fields fit, so 7 is not for it. Where the
+-- fields of all others fit too, the answer is 11 if it stands first, and else 12 at its place once no word before it is refused.
 -- `no-kind-fits`, `no-kind-first` and `no-kind-in-turn` in proofs/NoKindOrder.antt prove the three claims (docs/STATEMENT.md, "Refusal numbers").
 -- Objects and words are looked up in a list from 0 on, and refusals count places from 1: what stands at k has the place k + 1.
 -- Assumes nothing.
@@ -28,7 +28,7 @@ objectAt f k = getD (f .places) k emptyFlat
 abbrev pub NoKindFits : Type 0
 NoKindFits = (f : FlatObjects) (k : ℕ) → 4 < objectAt f k .kind → eqb (encodedNumber (encodedFlatAt (f .places) k)) 7 ≡ false
 
--- a count of 1 to 7, and no field too wide
+-- a count of 1 to 7, and all fields of all objects fit
 pub record Fits (f : FlatObjects) : Type 0 where
   pub counted : badCount (f .count) ≡ false
   pub narrow : NoneApply (eachPlace (wideRows (encodedFlatAt (f .places))) (f .count))

@@ -27,27 +27,29 @@ BuiltReturns =
     (p : Profile) (b : Listing) → BuildAnswers p b → b .verdict ≡ success
     → (r : Reading) → ReadAnswers (b .list) r → (w : Listing) → WriteAnswers (r .list) w → (r .verdict ≡ success) × (w ≡ b)
 
--- ---- which currents are allowed, exactly when: a is a current in 10 mA, in 50 mA for PPS
+-- ---- which currents are allowed, exactly when: a is a current in 10 mA, for PPS in 50 mA; `downAt` and `upAt` are the quotient 50 P / V rounded
 
--- at 20 V: either rounding, cut to the cable
+-- 20 V: the quotient rounded down or up, and no more than the cable carries
 abbrev pub AllowedAt20V : Type 0
 AllowedAt20V =
     (p : Profile) (volts a : ℕ) → volts ≡ 20
     → (fixedAllowed p volts a ≡ true) ↔ ((a ≡ min (downAt p volts) (cable10mA p)) ⊎ (a ≡ min (upAt p volts) (cable10mA p)))
 
--- at 5, 9 and 15 V, where P exceeds 6 times the volts: from 3 A to the smaller of cable and the quotient rounded up
+-- 5, 9 and 15 V where the quotient is above 3 A, that is with P more than 6 times the volts: anything from 3 A up to the quotient rounded up, as
+-- far as the cable carries it
 abbrev pub AllowedPast3A : Type 0
 AllowedPast3A =
     (p : Profile) (volts a : ℕ) → (volts ≡ 20 → ⊥) → 6 * volts < p .present .0
     → (fixedAllowed p volts a ≡ true) ↔ ((300 ≤ a) × (a ≤ min (upAt p volts) (cable10mA p)))
 
--- else the quotient rounded either way
+-- the same voltages where it is not: the quotient rounded down or up
 abbrev pub AllowedTo3A : Type 0
 AllowedTo3A =
     (p : Profile) (volts a : ℕ) → (volts ≡ 20 → ⊥) → p .present .0 ≤ 6 * volts
     → (fixedAllowed p volts a ≡ true) ↔ ((a ≡ downAt p volts) ⊎ (a ≡ upAt p volts))
 
--- PPS: the built figure, or, in two ranges of M, more, up to the smaller of cable and the rounded-down quotient
+-- PPS: the current that is built; or, in the two ranges of M that `mayExceed` has, anything from there up to the quotient rounded down, as far as
+-- the cable carries it
 abbrev pub ProgAllowedExactly : Type 0
 ProgAllowedExactly =
     (p : Profile) (volts a : ℕ)

@@ -37,30 +37,22 @@ noCurrent = fixed 1 0
 
 -- ---- on lists, and set-up
 
--- what no refusal applies to is accepted: each M of 1 to 200 has a default profile, and that profile is built; so is set-up
+-- 1: what no refusal applies to is accepted. Each M of 1 to 200 has a default profile, for which a list is built; and set-up takes its rows
 pub record OnLists (l : Library) : Type 0 where
-  -- 1
   pub default-given : (n : ℕ) → 1 ≤ n → n ≤ 200 → l .default n .verdict ≡ success
-  -- 1
   pub default-builds : (n : ℕ) → 1 ≤ n → n ≤ 200 → l .build (l .default n .profile) .verdict ≡ success
-  -- 1
   pub set-up-given : (ys : List Row) (capacity : ℕ) → NoneApply (setUpRefusals capacity ys) → l .set-up ys capacity .0 ≡ success
 
--- a profile that nothing refuses is built, and every other call on lists takes what is built
+-- of a profile that nothing refuses
 pub record OnBuilt (l : Library) (p : Profile) : Type 0 where
-  -- 1
+  -- 1: it is built, and every other call on lists takes what is built
   pub list-built : l .build p .verdict ≡ success
-  -- 1
   pub built-shaped : l .shape (l .build p .list) ≡ success
-  -- 1
   pub built-checked : l .check p (l .build p .list) ≡ success
-  -- 1
   pub built-read : l .read (l .build p .list) .verdict ≡ success
-  -- 1
   pub built-written : l .write (l .read (l .build p .list) .list) ≡ l .build p
-  -- 1
   pub built-answered : l .answer (l .build p .list) noCurrent ≡ success
-  -- 3
+  -- 3: above M 30 the list has more than 5 V
   pub built-past-5-V : 30 < p .max .0 → 1 < l .build p .list .count
   -- 6: the count is that of the tables
   pub no-other-built-count : (n : ℕ) → (n ≡ builtCount p → ⊥) → l .build p .list .count ≡ n → ⊥
@@ -82,7 +74,7 @@ pub record OnSharing (capacity : ℕ) (start : List Row) (h : ℕ → Known) (ys
   -- 2: and every attached port has such a request
   pub no-current-accepted : (port : ℕ) (r : Verdict) (zs : List Row) → SharesRequest ys capacity port noCurrent r zs
       → IsAttached (length start) h port → r ≡ success
-  -- 3
+  -- 3: above M 30 a list has more than 5 V
   pub attached-past-5-V : (port cable : ℕ) (r : Listing) (zs : List Row) → SharesAttach ys capacity port cable r zs
       → CanAttach (length start) h port cable → 30 < maxOf start (port - 1) → 1 < r .list .count
   pub advertised-past-5-V : (port : ℕ) (r : Listing) (zs : List Row) → SharesAdvertise ys capacity port r zs
