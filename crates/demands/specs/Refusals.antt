@@ -1,18 +1,17 @@
 -- Demand 1, refusals: a call gives number n with its place exactly when refusal n applies there and none before it in the order does, and it
 -- succeeds exactly when none applies. On a refusal all else in the answer is zero. Each claim is proved by the theorem of its name in small
 -- letters (`shape-refusals` is `ShapeRefusals`) in proofs/Refusals.antt.
--- The table of each call, in the order of docs/STATEMENT.md, "Refusal numbers", is in specs/ of `lists`, `rules` and `requests`. `NoneApply rs`
--- says that no row of the table rs applies, `First rs n p` that a row with number n and place p does and none before it
--- (crates/verdicts/proofs/First.antt). A place in a verdict counts from 1, and is 0 where a refusal has no place.
+-- The table of each call, in the order of docs/STATEMENT.md, "Refusal numbers", is in specs/ of `lists`, `rules` and `requests`; a row
+-- `refusal b n p` has whether it applies, its number and its place. A place counts from 1, and is 0 where a refusal has none.
 -- Calls whose answer is an enum are in EnumRefusals, those of C in FlatRefusals, those over rows in SharingRefusals.
 -- Assumes nothing.
 use mathlib.Core.Path.{_≡_}
-use mathlib.Core.List.{List}
+use mathlib.Core.Bool.{true, false}
+use mathlib.Core.List.{List, [], _∷_, _++_}
 use mathlib.Core.Logic.{_↔_}
 use Prim.Native.Nat.{ℕ}
 use Rattle.verdicts.specs.declared.Verdict.{Verdict}
-use Rattle.verdicts.specs.Refusals.{Refusal, verdict, success}
-use Rattle.verdicts.proofs.First.{NoneApply, First}
+use Rattle.verdicts.specs.Refusals.{Refusal, refusal, verdict, success}
 use Rattle.steps.specs.declared.HalfWatts.{HalfWatts}
 use Rattle.objects.specs.declared.Object.{Object}
 use Rattle.lists.specs.declared.Words.{Words}
@@ -29,6 +28,18 @@ use Rattle.rules.specs.Checking.{checkRefusals}
 use Rattle.requests.specs.Judging.{refusalsOf}
 use Rattle.requests.specs.Answering.{answerRefusals}
 use Rattle.demands.specs.CallContracts.{ShapeAnswers, ReadAnswers, WriteAnswers, DefaultAnswers, BuildAnswers, CheckAnswers, AnswerAnswers, JudgeAnswers}
+
+-- no row of a table applies
+abbrev pub NoneApply : List Refusal → Type 0
+NoneApply [] = Unit {0}
+NoneApply (refusal b n p ∷ rs) = (b ≡ false) × NoneApply rs
+
+-- a row with number n and place p applies, and no row before it does
+pub record First (rs : List Refusal) (n p : ℕ) : Type 0 where
+  pub before : List Refusal
+  pub after : List Refusal
+  pub stands : rs ≡ before ++ (refusal true n p ∷ after)
+  pub clear : NoneApply before
 
 -- a verdict answers a table: success exactly when no row applies, and a row's number and place exactly when it is the first that applies
 abbrev pub Answers : Verdict → List Refusal → Type 0
