@@ -1,7 +1,8 @@
 -- The contract of each public call, by name: `ShapeAnswers l r` says that the contract of `shape` allows the answer r at the list l.
 -- Each name is the clause of the source itself, as the prover reads it: `Post` of the arguments, the answer and the arguments at exit.
--- Nothing is claimed here; every claim of this folder speaks of the calls by these names, by those of FlatContracts, and, for the calls
--- over lent rows, by the names that are their clauses (crates/board/specs/Promises.antt).
+-- Nothing is claimed here. The claims of this folder speak of the calls by these names, by those of FlatContracts, and, for the calls over
+-- lent rows, by the names that are their clauses (crates/board/specs/Promises.antt); where a claim is over a definition that a contract cites,
+-- the head of its file says so.
 -- Assumes nothing.
 use mathlib.Core.Bool.{Bool}
 use Prim.Native.Nat.{ℕ}

@@ -2,6 +2,7 @@
 -- the request's own only, never for the shape of the list. No request that is accepted on it has more power than the row's P, so what a port
 -- holds stays within 15 .. P. Each claim is proved by the theorem of its name in small letters: the first four in proofs/RuleLists.antt, the last
 -- three in proofs/AcceptedPower.antt (docs/STATEMENT.md, "Ports that share").
+-- They are over the definitions that the contracts cite: `ruleList`, `checkedOf` and `answerOf`.
 -- Assumes nothing.
 use mathlib.Core.Path.{_≡_}
 use mathlib.Core.Logic.{_⊎_}
