@@ -1,6 +1,6 @@
 -- Demand 2, the power rules: every list that is built for a profile passes the rule check for that profile, and reads and writes back to
--- itself. Of each current it is said plainly when the rule check allows it, over the tests that its contract cites. Each claim is proved by the theorem of its name in small letters
--- (`built-passes` is `BuiltPasses`) in proofs/PowerRules.antt (docs/STATEMENT.md, "Power rules").
+-- itself. Of each current it is said plainly when the rule check allows it, over the tests that its contract cites. Each claim is proved by the
+-- theorem of its name in small letters (`built-passes` is `BuiltPasses`) in proofs/PowerRules.antt (docs/STATEMENT.md, "Power rules").
 -- Assumes nothing.
 use mathlib.Core.Path.{_≡_}
 use mathlib.Core.Bool.{true}
