@@ -5,6 +5,7 @@
  * The same header serves two libraries with the same calls. Link one of them:
  *   - libboard.a, which `rt staticlib board` writes to target/staticlib, for x86-64;
  *   - libarinduleu_c.a, which cargo makes from rust/c, for any target that rustc knows.
+ * tools/install.sh installs either of them, as libarinduleu.a, with this header.
  *
  * Answers. Any argument may be wrong: the answer is then a refusal, with its number and its place. All else in the answer is
  * zero, a list is empty, and no row is written. Success is number 0, place 0. Each call names its refusals in the order in which

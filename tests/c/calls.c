@@ -645,7 +645,7 @@ static void hard_reset(void)
     CHECK(is(arin_request(r, 2, 200, 2, ask(4, 325)), 0, 0));
     CHECK(is(arin_request(r, 2, 200, 1, ask(4, 325)), ARIN_NO_POWER_NOW, 1));
 
-    /* Advertise: the list is the same, and port 1 is sure of what it held. */
+    /* Advertise: what port 1 held is kept for it, and port 2 gets a list of the rest. */
     r[0] = holds;
     r[1] = row(130, 0, 0, 0, 15);
     CHECK(lists(arin_advertise(r, 2, 200, 1), list_l()));
