@@ -3,34 +3,20 @@
 -- second current zero at most the first; under 15.0 V it is held to the first current, over it to the second. Each claim is over the contract
 -- of `answer` and is proved by the theorem of its name in small letters (`exactly-15-V` is `Exactly15V`) in proofs/At15V.antt
 -- (docs/STATEMENT.md, "Answering a request").
--- The position in a request word counts from 1: 1 names the first word of the list.
+-- `AsksAvs l w low high` (requests, specs/At15V) is a request to an AVS object of the list l with these two currents. The position in a request
+-- word counts from 1: 1 names the first word of the list.
 -- Assumes nothing.
 use mathlib.Core.Path.{_≡_}
-use mathlib.Core.Bool.{false}
 use mathlib.Core.Logic.{_↔_}
 use Prim.Native.Nat.{ℕ, _%_, _≤_, _<_, max}
 use Rattle.verdicts.specs.declared.Verdict.{Verdict}
 use Rattle.verdicts.specs.Refusals.{success}
 use Rattle.steps.specs.Units.{mv25, ma10, ma50}
 use Rattle.steps.specs.declared.Ma10.{Ma10}
-use Rattle.objects.specs.declared.Object.the-variants.{Avs}
-use Rattle.objects.specs.declared.Decoded.the-variants.{Known}
 use Rattle.lists.specs.declared.Words.{Words}
-use Rattle.lists.specs.Shape.{shapeOf}
-use Rattle.requests.specs.Taking.{positionOf, avsVolts, currentIn}
-use Rattle.requests.specs.Limits.{reservedInRequest}
-use Rattle.requests.specs.Answering.{namedBy}
+use Rattle.requests.specs.Taking.{avsVolts, currentIn}
+use Rattle.requests.specs.At15V.{AsksAvs}
 use Rattle.demands.specs.CallContracts.{AnswerAnswers}
-
--- a request w to an AVS object of the list l: the shape of l passes, the position names a word of l, that word is an AVS object with these
--- two currents, and no reserved bit of the request is set
-pub record AsksAvs (l : Words) (w : ℕ) (low high : Ma10) : Type 0 where
-  pub shape-passes : shapeOf l ≡ success
-  pub from-1 : 1 ≤ positionOf w
-  pub to-count : positionOf w ≤ l .count
-  pub peak : ℕ
-  pub names : namedBy l w ≡ Known (Avs peak low high)
-  pub none-reserved : reservedInRequest (Avs peak low high) w ≡ false
 
 -- accepted exactly when the current asked for is at most so many mA
 abbrev pub AcceptsUpTo : Verdict → ℕ → ℕ → Type 0
