@@ -35,30 +35,7 @@ esac
 warnings=(-Wall -Wextra -Wpedantic -Werror)
 sources=(examples/two_ports.c tests/c/calls.c tests/c/layout.c)
 cargo_library=release/libarinduleu_c.a
-passed=0
-made=$(mktemp -d)
-trap 'rm -rf "$made"' EXIT
-
-pass() {
-  echo "c: $1"
-  passed=$((passed + 1))
-}
-
-fail() {
-  echo "c: $1" >&2
-  echo "c: $passed passed, 1 failed, ${#skipped[@]} skipped"
-  exit 1
-}
-
-# quietly WHY COMMAND...: what the command prints is shown only where it fails.
-quietly() {
-  local why=$1
-  shift
-  "$@" > "$made/log" 2>&1 || {
-    tail -n 20 "$made/log" >&2
-    fail "$why"
-  }
-}
+. tools/passing.sh
 
 # The cargo library loops for ever where it panics, so a program has a limit where the machine has `timeout`.
 limited() {

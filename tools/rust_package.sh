@@ -29,32 +29,9 @@ END
     ;;
 esac
 
-passed=0
-made=$(mktemp -d)
-trap 'rm -rf "$made"' EXIT
+. tools/passing.sh
 # What is built once serves the next part too.
 export CARGO_TARGET_DIR="$made/target" CARGO_INCREMENTAL=0 CARGO_PROFILE_DEV_DEBUG=0
-
-pass() {
-  echo "rust: $1"
-  passed=$((passed + 1))
-}
-
-fail() {
-  echo "rust: $1" >&2
-  echo "rust: $passed passed, 1 failed, ${#skipped[@]} skipped"
-  exit 1
-}
-
-# quietly WHY COMMAND...: what the command prints is shown only where it fails.
-quietly() {
-  local why=$1
-  shift
-  "$@" > "$made/log" 2>&1 || {
-    tail -n 20 "$made/log" >&2
-    fail "$why"
-  }
-}
 
 # block FIRST: the indented block of the README's section that begins with this, without its indent.
 block() {
