@@ -24,6 +24,8 @@
  *   - Port n is rows[n - 1].
  *   - Set up once. After that only the calls write the rows.
  *
+ * For C99 and later, and C++11 and later.
+ *
  * Nothing is allocated, nothing blocks, and no state is kept but the rows. Calls on different rows may run at the same time.
  */
 #ifndef ARINDULEU_H
@@ -40,7 +42,7 @@
 
 /*
  * Stands before every call: an answer that nobody looks at is a slip, and GCC and clang warn of it. Other compilers see nothing.
- * Define it before the header to have another mark, or none.
+ * Who means to ignore one assigns it to something: GCC warns even behind (void). Define it before the header to have another mark, or none.
  */
 #ifndef ARIN_MUST_USE
 #if defined(__GNUC__) || defined(__clang__)

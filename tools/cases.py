@@ -11,6 +11,7 @@ its answer. A page goes on and starts as a case file does, and each call that do
 """
 
 import argparse
+import os
 import pathlib
 import sys
 
@@ -122,14 +123,15 @@ def steps_of(files):
 def compare(files, what, path, who):
     steps = list(steps_of(files))
     answers = lines_of(pathlib.Path(path))
+    # Answers to other calls than these would differ at every line.
+    if len(answers) != len(steps):
+        print(f"cases: {who} answered {len(answers)} lines where {len(steps)} are asked: were they made from these calls?")
+        sys.exit(1)
     wrong = False
     for (place, call, right), answer in zip(steps, answers):
         if answer != right:
             wrong = True
             print(f"{place}: {call}\n    expected: {right}\n    {who} answered: {answer}")
-    if len(answers) != len(steps):
-        wrong = True
-        print(f"cases: {who} answered {len(answers)} lines where {len(steps)} were asked")
     if wrong:
         sys.exit(1)
     count = sum(len(cases) for cases in files)
@@ -151,6 +153,12 @@ def main():
         return
     for _, call, _ in steps_of(files):
         print(call)
+    sys.stdout.flush()
 
 
-main()
+try:
+    main()
+except OSError as error:
+    # What waits to be written would be tried again at the end.
+    os.dup2(os.open(os.devnull, os.O_WRONLY), sys.stdout.fileno())
+    sys.exit(f"cases: cannot read or write: {error.strerror}")

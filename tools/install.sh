@@ -22,7 +22,8 @@ Builds the static library and installs, under DIR:
   --target TRIPLE   what cargo builds for, for instance thumbv7em-none-eabihf;
                     without it, this machine
 
-With DESTDIR set, all of it goes under $DESTDIR$DIR, as for a package.
+With DESTDIR set, all of it goes under $DESTDIR$DIR, as for a package. Where DIR
+has a space in it the shell takes what pkg-config says apart: use CMake there.
 A library that is there is replaced; nothing else under DIR is touched.
 END_OF_HELP
 }
@@ -36,9 +37,21 @@ need() {
   command -v "$1" > /dev/null 2>&1 || { echo "$who: there is no $1 on the PATH, and $2 needs it" >&2; exit 1; }
 }
 
+# take OPTION VALUE: once, and no option for a value.
+take() {
+  case "$2" in
+    "") stop "$1 wants a word behind it" ;;
+    -*) stop "$1 wants a word behind it, not '$2'" ;;
+  esac
+  case " $given " in *" $1 "*) stop "$1 is given twice" ;; esac
+  given="$given $1"
+  printf -v "${1#--}" %s "$2"
+}
+
 prefix=
 library=cargo
 target=
+given=
 while [ $# -gt 0 ]; do
   case "$1" in
     -h | --help)
@@ -46,13 +59,11 @@ while [ $# -gt 0 ]; do
       exit 0
       ;;
     --prefix | --library | --target)
-      [ -n "${2:-}" ] || stop "$1 wants a word behind it"
-      printf -v "${1#--}" %s "$2"
+      take "$1" "${2:-}"
       shift 2
       ;;
-    --prefix=?* | --library=?* | --target=?*)
-      word=${1%%=*}
-      printf -v "${word#--}" %s "${1#*=}"
+    --prefix=* | --library=* | --target=*)
+      take "${1%%=*}" "${1#*=}"
       shift
       ;;
     *) stop "unknown word '$1'" ;;
@@ -71,6 +82,10 @@ case "$prefix" in
     [ -z "${DESTDIR:-}" ] || stop "with DESTDIR the prefix begins with /"
     prefix=$PWD/$prefix
     ;;
+esac
+case "${DESTDIR:-}" in
+  "" | /*) ;;
+  *) DESTDIR=$PWD/$DESTDIR ;;
 esac
 
 cd "$root"
@@ -105,19 +120,22 @@ build_kit() {
 
 "build_$library"
 to=${DESTDIR:-}$prefix
-mkdir -p "$to/include" "$to/lib/pkgconfig" "$to/lib/cmake/arinduleu"
+mkdir -p "$to/include" "$to/lib/pkgconfig" "$to/lib/cmake/arinduleu" || {
+  echo "$who: cannot make the folders under $to" >&2
+  exit 1
+}
 
 # put FROM TO: with the version in its place. A file that is there is replaced, not written into.
 put() {
   sed "s/@VERSION@/$version/g" "$1" > "$to/$2.new"
-  mv -f "$to/$2.new" "$to/$2"
+  mv -fT "$to/$2.new" "$to/$2"
   echo "$to/$2"
 }
 
 put include/arinduleu.h include/arinduleu.h
 put include/arinduleu_refusals.inc include/arinduleu_refusals.inc
 cp "$archive" "$to/lib/libarinduleu.a.new"
-mv -f "$to/lib/libarinduleu.a.new" "$to/lib/libarinduleu.a"
+mv -fT "$to/lib/libarinduleu.a.new" "$to/lib/libarinduleu.a"
 echo "$to/lib/libarinduleu.a"
 put tools/install/arinduleu.pc.in lib/pkgconfig/arinduleu.pc
 put tools/install/arinduleu-config.cmake lib/cmake/arinduleu/arinduleu-config.cmake

@@ -1,5 +1,5 @@
 #!/usr/bin/env bash
-# Every table of docs/PERFORMANCE.md: times, instructions, caps, code size. Each part can be run by itself.
+# The first four tables of docs/PERFORMANCE.md: times, instructions, caps, code size. Each part can be run by itself.
 set -euo pipefail
 cd "$(dirname "$0")/.."
 

@@ -13,6 +13,8 @@
 //! either, whose error is a [`Refusal`]: it says its sentence, and it is never a success.
 //!
 //! ```
+//! use arinduleu::board::{arin_attach, arin_remaining, arin_request, arin_set_up};
+//! use arinduleu::ports::Row;
 //! use arinduleu::rules::{build, default_profile, Profile};
 //! use arinduleu::steps::HalfWatts;
 //! use arinduleu::{requests, Refusal};
@@ -28,6 +30,14 @@
 //!     let refusal = requests::answer(list, 0x7004_B12C).ok().unwrap_err();
 //!     assert_eq!(refusal.number(), arinduleu::verdicts::POSITION);
 //!     assert_eq!(refusal.to_string(), "the request names a position that the list does not have (refusal 20)");
+//!
+//!     // Two ports of 65 W that share 100 W: port 1 gets a 5 A cable and takes 20 V at 3.25 A.
+//!     let mut rows = [Row { max: HalfWatts(130), ..Row::default() }; 2];
+//!     arin_set_up(&mut rows, 200).ok()?;
+//!     let list = arin_attach(&mut rows, 200, 1, 5).ok()?;
+//!     assert_eq!(list.as_slice()[3], 0x0006_4145);
+//!     arin_request(&mut rows, 200, 1, 0x4005_1545).ok()?;
+//!     assert_eq!(arin_remaining(&rows, 200).ok()?, HalfWatts(55));
 //!     Ok(())
 //! }
 //! ```

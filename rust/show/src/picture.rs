@@ -22,6 +22,8 @@ struct Picture {
     left: u32,
     columns_per_volt: u32,
     row_step: u32,
+    /// Whether something lies above the picture.
+    left_out: bool,
     /// From 0 A upwards.
     rows: Vec<Vec<char>>,
 }
@@ -62,6 +64,7 @@ fn empty(supplies: &[Supply]) -> Picture {
         left,
         columns_per_volt,
         row_step,
+        left_out: false,
         rows: vec![vec![' '; columns as usize + 1]; rows as usize + 1],
     }
 }
@@ -88,9 +91,9 @@ impl Picture {
     }
 
     fn put(&mut self, row: u32, column: u32, mark: char) {
-        // What lies above the picture is left out.
-        if let Some(row) = self.rows.get_mut(row as usize) {
-            row[column as usize] = mark;
+        match self.rows.get_mut(row as usize) {
+            Some(row) => row[column as usize] = mark,
+            None => self.left_out = true,
         }
     }
 
@@ -112,7 +115,11 @@ impl Picture {
 
     fn nearest(&self) -> String {
         let step = figures::amperes(self.row_step);
-        format!("  (each at the nearest 1/{} V and {step})\n", self.columns_per_volt)
+        let mut text = format!("  (each at the nearest 1/{} V and {step})\n", self.columns_per_volt);
+        if self.left_out {
+            text.push_str("  (what lies above the picture is not drawn)\n");
+        }
+        text
     }
 
     fn text(&self) -> String {

@@ -42,7 +42,7 @@ fn readme_shows_what_is_printed() {
     let stored = include_str!("../stored/65_w_5_a_pps.txt");
     let indented: String =
         stored.lines().map(|line| format!("    {line}").trim_end().to_string() + "\n").collect();
-    assert!(readme.contains("cargo run -p show -- 65 --cable 5 --pps\n"));
+    assert!(readme.contains("cargo run -p show -- 65 --cable 5 --pps)\n"));
     assert!(readme.contains(&indented));
 }
 
@@ -161,6 +161,14 @@ fn the_library_refuses_in_a_sentence() {
     }
     let eight = format!("--words{}", " 0001912C".repeat(8));
     assert!(text_of(&eight).unwrap_err().starts_with("refused (10)"));
+}
+
+#[test]
+fn what_lies_above_the_picture_is_said() {
+    // A battery of 100 W from 5 V: 20 A there.
+    let told = "  (what lies above the picture is not drawn)\n";
+    assert!(text_of("--words 0001912C 46419190").unwrap().ends_with(told));
+    assert!(!text_of("36 --pps").unwrap().contains(told));
 }
 
 #[test]
