@@ -9,8 +9,7 @@ use native.Mathlib.Omega.{arith}
 use lib.Dec.{leb, ltb, eqb}
 use lib.ListN.{getD}
 use borrow.Author.Tests.{leb-true, leb-false, ltb-true, ltb-false}
-use Rattle.verdicts.specs.Refusals.{success}
-use Rattle.verdicts.proofs.First.{NoneApply}
+use Rattle.verdicts.specs.Refusals.{success, NoneApply}
 use Rattle.steps.specs.Rounding.{upOf}
 use Rattle.steps.specs.declared.Ma10.{Ma10}
 use Rattle.steps.proofs.RoundingLaws.{down-under, up-least}
@@ -33,9 +32,8 @@ use Rattle.ports.specs.RuleLists.{ruleProfile, ruleList}
 use Rattle.ports.specs.Requests.{halfWattsFor, cutFor, powerIn, powerOf, heldFor}
 use Rattle.rules.proofs.Slots.{slotGood}
 use Rattle.rules.proofs.BuiltPasses.{good, known}
-use Rattle.ports.proofs.RuleLists as there
+use Rattle.ports.proofs.RuleLists.{rule-list-is, rule-profile-passes}
 use Rattle.demands.specs.RuleLists.{HeldFrom15, AcceptedPower, HeldToP}
-use Rattle.demands.proofs.RuleLists.{offerable}
 
 -- ---- voltage times current
 
@@ -136,9 +134,9 @@ held-from-15 y w = le-max-left 15 (powerOf (ruleList y) (y .present .0) w)
 pub accepted-power : AcceptedPower
 unfolding ruleProfile
 accepted-power y o w e =
-    let q = there.rule-list-is y (offerable y o) in
+    let q = rule-list-is y o in
     subst (λ (l : Words). powerOf l (y .present .0) w ≤ y .present .0) (sym q)
-    (built-power (ruleProfile y) refl (there.rule-profile-passes y (offerable y o)) w (sym (ap (λ (l : Words). answerOf l w) q) ∙ e))
+    (built-power (ruleProfile y) refl (rule-profile-passes y o) w (sym (ap (λ (l : Words). answerOf l w) q) ∙ e))
 
 pub held-to-P : HeldToP
 unfolding heldFor

@@ -5,10 +5,10 @@ use Prim.Native.Nat.{ℕ, _<_}
 use native.Mathlib.Omega.{arith}
 use lib.ListN.{length}
 use borrow.Author.Tests.{lt-ltb}
-use Rattle.verdicts.proofs.First.{NoneApply}
+use Rattle.verdicts.specs.Refusals.{NoneApply}
 use Rattle.lists.specs.declared.Words.{Words}
 use Rattle.lists.specs.Shape.{shapeRefusals}
-use Rattle.lists.proofs.RoundTrips as there
+use Rattle.lists.specs.Kept.{Words32}
 use Rattle.rules.specs.declared.Profile.{Profile}
 use Rattle.rules.specs.Profiles.{buildRefusals}
 use Rattle.rules.specs.Tables.{baseSlots}
@@ -16,9 +16,8 @@ use Rattle.rules.specs.Building.{builtWords}
 use Rattle.rules.proofs.BuiltPasses.{shape-clear, built-fits}
 use Rattle.rules.proofs.Places.{base-counted}
 use Rattle.ports.specs.declared.Row.{Row}
-use Rattle.ports.specs.RuleLists.{ruleProfile, ruleList}
-use Rattle.ports.proofs.RuleLists.{Offerable, rule-profile-passes, rule-list-is}
-use Rattle.demands.specs.RoundTrips.{Words32}
+use Rattle.ports.specs.RuleLists.{ruleProfile, ruleList, Offerable}
+use Rattle.ports.proofs.RuleLists.{rule-profile-passes, rule-list-is}
 
 pub record BuiltFor (m : ℕ) (w : Words) : Type 0 where
   pub profile : Profile
@@ -41,7 +40,7 @@ module _ (m : ℕ) (w : Words) (b : BuiltFor m w) where
   for-shaped = subst (λ (x : Words). NoneApply (shapeRefusals x)) (sym (b .list-is)) (shape-clear (b .profile) (b .passes))
 
   pub for-typed : Words32 w
-  for-typed = record { fits = subst there.Words32 (sym (b .list-is)) (built-fits (b .profile) (b .passes)) .fits }
+  for-typed = subst Words32 (sym (b .list-is)) (built-fits (b .profile) (b .passes))
 
   pub for-past-5-V : 30 < m → 1 < w .count
   for-past-5-V h =

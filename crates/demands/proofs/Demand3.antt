@@ -10,8 +10,8 @@ use lib.Dec.{ltb, eqb}
 use lib.ListN.{length}
 use borrow.Author.Tests.{lt-ltb, le-ltb, ltb-true, ltb-false, not-false}
 use Rattle.verdicts.specs.declared.Verdict.{Verdict}
-use Rattle.verdicts.specs.Refusals.{firstOf, verdict, success, verdictOf}
-use Rattle.verdicts.proofs.First.{NoneApply, none-append, none-left, none-right, all-missed, onward, hit, miss, refused-so}
+use Rattle.verdicts.specs.Refusals.{firstOf, verdict, success, verdictOf, NoneApply}
+use Rattle.verdicts.proofs.First.{none-append, none-left, none-right, all-missed, onward, hit, miss, refused-so}
 use Rattle.steps.proofs.RangeLaws.{inside}
 use Rattle.lists.specs.declared.Words.{Words}
 use Rattle.lists.specs.declared.Listing.{Listing}

@@ -8,9 +8,9 @@ use Rattle.flat.specs.declared.FlatObjects.{FlatObjects}
 use Rattle.flat.specs.declared.FlatReading.{FlatReading}
 use Rattle.flat.specs.Reading.{flatObjects, flatReadingOf}
 use Rattle.flat.proofs.Readings.{flat-read-verdict, flat-read-list}
-use Rattle.flat.proofs.Unread as there
-use Rattle.demands.specs.FlatUnread.{AgreeFlat, FlatReadDoesNotLook, FlatWriteDoesNotLook, ArinShapeDoesNotLook, ArinReadDoesNotLook, ArinWriteDoesNotLook, ArinCheckDoesNotLook, ArinAnswerDoesNotLook}
-use Rattle.demands.proofs.Unread.{same-words, shape-does-not-look, check-does-not-look, answer-does-not-look}
+use Rattle.flat.proofs.Unread.{flat-write-unread}
+use Rattle.demands.specs.FlatUnread.{FlatReadDoesNotLook, FlatWriteDoesNotLook, ArinShapeDoesNotLook, ArinReadDoesNotLook, ArinWriteDoesNotLook, ArinCheckDoesNotLook, ArinAnswerDoesNotLook}
+use Rattle.demands.proofs.Unread.{shape-does-not-look, check-does-not-look, answer-does-not-look}
 
 -- ---- flat
 
@@ -20,17 +20,13 @@ flat-read-does-not-look l m a r s e f = e ∙ ap₂ reading verdicts lists ∙ s
   reading v o = record { verdict = v; list = o }
 
   verdicts : flatReadingOf l .verdict ≡ flatReadingOf m .verdict
-  verdicts = flat-read-verdict l ∙ ap (λ (x : Reading). x .verdict) (read-unread l m (same-words l m a)) ∙ sym (flat-read-verdict m)
+  verdicts = flat-read-verdict l ∙ ap (λ (x : Reading). x .verdict) (read-unread l m a) ∙ sym (flat-read-verdict m)
 
   lists : flatReadingOf l .list ≡ flatReadingOf m .list
-  lists = flat-read-list l ∙ ap (λ (x : Reading). flatObjects (x .list)) (read-unread l m (same-words l m a)) ∙ sym (flat-read-list m)
-
--- as the laws of `flat` have it
-same-flat : (f g : FlatObjects) → AgreeFlat f g → there.AgreeFlat f g
-same-flat f g a = record { count = a .count; places = a .places }
+  lists = flat-read-list l ∙ ap (λ (x : Reading). flatObjects (x .list)) (read-unread l m a) ∙ sym (flat-read-list m)
 
 pub flat-write-does-not-look : FlatWriteDoesNotLook
-flat-write-does-not-look f g a r s e h = e ∙ there.flat-write-unread f g (same-flat f g a) ∙ sym h
+flat-write-does-not-look f g a r s e h = e ∙ flat-write-unread f g a ∙ sym h
 
 -- ---- board, lists and requests
 

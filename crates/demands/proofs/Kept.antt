@@ -9,8 +9,8 @@ use lib.Dec.{eqb}
 use lib.ListN.{length, length-set, length-map, set}
 use borrow.Author.Tests.{eqb-true, eqb-false, eq-eqb, ne-eqb, not-false}
 use Rattle.verdicts.specs.declared.Verdict.{Verdict}
-use Rattle.verdicts.specs.Refusals.{Refusal, eachPlace, verdict, success, verdictOf}
-use Rattle.verdicts.proofs.First.{NoneApply, none-left, none-right, none-applied, all-missed, refused-so, numbered}
+use Rattle.verdicts.specs.Refusals.{Refusal, eachPlace, verdict, success, verdictOf, NoneApply}
+use Rattle.verdicts.proofs.First.{none-left, none-right, none-applied, all-missed, refused-so, numbered}
 use Rattle.lists.specs.declared.Words.{Words}
 use Rattle.lists.specs.declared.Listing.{Listing}
 use Rattle.lists.specs.Writing.{writeRefused}

@@ -9,8 +9,8 @@ use native.Mathlib.Omega.{arith}
 use lib.Dec.{leb, eqb}
 use lib.ListN.{getD}
 use borrow.Author.Tests.{le-leb, not-false}
-use Rattle.verdicts.specs.Refusals.{verdict, success}
-use Rattle.verdicts.proofs.First.{NoneApply, none-append, all-missed}
+use Rattle.verdicts.specs.Refusals.{verdict, success, NoneApply}
+use Rattle.verdicts.proofs.First.{none-append, all-missed}
 use Rattle.steps.specs.Units.{mv50}
 use Rattle.steps.specs.Rounding.{upOf}
 use Rattle.objects.specs.declared.Object.the-variants.{Fixed, Battery, Variable, Pps, Avs}

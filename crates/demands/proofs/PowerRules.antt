@@ -9,8 +9,8 @@ use lib.Dec.{leb, eqb}
 use lib.ListN.{getD}
 use borrow.Author.Tests.{leb-true, le-leb, eqb-true, eq-eqb}
 use Rattle.verdicts.specs.declared.Verdict.{Verdict}
-use Rattle.verdicts.specs.Refusals.{success}
-use Rattle.verdicts.proofs.First.{NoneApply, all-missed, none-applied}
+use Rattle.verdicts.specs.Refusals.{success, NoneApply}
+use Rattle.verdicts.proofs.First.{all-missed, none-applied}
 use Rattle.lists.specs.declared.Words.{Words}
 use Rattle.lists.specs.declared.Reading.{Reading}
 use Rattle.lists.specs.declared.Listing.{Listing}

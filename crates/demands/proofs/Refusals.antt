@@ -6,7 +6,6 @@ use Prim.Native.Nat.{ℕ}
 use Rattle.verdicts.specs.declared.Verdict.{Verdict}
 use Rattle.verdicts.specs.Refusals.{Refusal, firstOf, verdict, success, verdictOf}
 use Rattle.verdicts.proofs.First.{Telling, passes-told, refused-so, Exactly, exactly-told, exactly, said-first}
-use Rattle.verdicts.proofs.First as laws
 use Rattle.lists.specs.declared.Reading.{Reading}
 use Rattle.lists.specs.declared.Listing.{Listing}
 use Rattle.lists.specs.Shape.{shapeRefusals}
@@ -23,21 +22,14 @@ use Rattle.rules.proofs.Checks.{check-numbered, check-verdict}
 use Rattle.requests.specs.Judging.{refusalsOf}
 use Rattle.requests.specs.Answering.{answerRefusals}
 use Rattle.requests.proofs.Answers.{answer-numbered, answer-verdict, judged-numbered, judged-verdict}
-use Rattle.demands.specs.Refusals.{First, Answers, ShapeRefusals, ReadRefusals, WriteRefusals, DefaultRefusals, BuildRefusals, CheckRefusals, AnswerRefusals, JudgeRefusals}
+use Rattle.demands.specs.Refusals.{Answers, ShapeRefusals, ReadRefusals, WriteRefusals, DefaultRefusals, BuildRefusals, CheckRefusals, AnswerRefusals, JudgeRefusals}
 
 -- ---- any table
 
 pub answers : (v : Verdict) (rs : List Refusal) → (Exactly rs) → v ≡ verdictOf rs → Answers v rs
 answers v rs x e =
     subst (λ (u : Verdict). Answers u rs) (sym e)
-    (x .succeeds, λ n p f. ((λ q. here rs n p (x .refuses n p f .0 q)), (λ q. x .refuses n p f .1 (there rs n p q))))
-  where
-    -- as the laws of `verdicts` have it, and back
-    here : (rs : List Refusal) (n p : ℕ) → laws.First rs n p → First rs n p
-    here rs n p f = record { before = f .before; after = f .after; stands = f .stands; clear = f .clear }
-
-    there : (rs : List Refusal) (n p : ℕ) → First rs n p → laws.First rs n p
-    there rs n p f = record { before = f .before; after = f .after; stands = f .stands; clear = f .clear }
+    (x .succeeds, x .refuses)
 
 -- an answer that has its verdict in it: the verdict answers the table, and what is refused is a refusal in all its parts
 pub answers-with : {A : Type 0} (said : A → Verdict) (refused : ℕ → ℕ → A) → ((n p : ℕ) → said (refused n p) ≡ verdict n p)

@@ -9,8 +9,8 @@ use lib.Dec.{leb, ltb, eqb}
 use lib.ListN.{length}
 use borrow.Author.Tests.{eqb-true, eqb-false, leb-true}
 use Rattle.verdicts.specs.declared.Verdict.{Verdict}
-use Rattle.verdicts.specs.Refusals.{Refusal, refusal, eachPlace, firstOf, verdict, success, verdictOf}
-use Rattle.verdicts.proofs.First.{NoneApply, none-applied, stops, goes-on}
+use Rattle.verdicts.specs.Refusals.{Refusal, refusal, eachPlace, firstOf, verdict, success, verdictOf, NoneApply}
+use Rattle.verdicts.proofs.First.{none-applied, stops, goes-on}
 use Rattle.requests.proofs.Answers.{answer-numbered, answer-verdict}
 use Rattle.ports.specs.declared.Row.{Row}
 use Rattle.ports.specs.Rows.{portRow, allHeld, leftFor}
@@ -21,7 +21,8 @@ use Rattle.ports.specs.Lending.{requestAnswer}
 use Rattle.ports.proofs.Passing.{use-numbered, attached}
 use Rattle.demands.specs.RuleLists.{OwnRefusal}
 use Rattle.demands.specs.RequestNumbers.{ofSharing, Outcome, accepted, own, shared, RequestOutcome, NeverOfShape}
-use Rattle.demands.proofs.RuleLists.{attached-offerable, refused-by-own}
+use Rattle.ports.proofs.RuleLists.{attached-offerable}
+use Rattle.demands.proofs.RuleLists.{refused-by-own}
 
 -- every number of a table passes a test
 abbrev allPass : (ℕ → Bool) → List Refusal → Bool

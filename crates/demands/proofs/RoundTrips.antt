@@ -6,7 +6,6 @@ use Rattle.objects.specs.declared.Decoded.the-variants.{Known}
 use Rattle.objects.specs.declared.Encoded.the-variants.{Word}
 use Rattle.objects.proofs.Saying.{decoded-is, encoded-is}
 use Rattle.objects.proofs.RoundTrip as one-word
-use Rattle.lists.specs.declared.Words.{Words}
 use Rattle.lists.specs.declared.Reading.{Reading}
 use Rattle.lists.specs.declared.Listing.{Listing}
 use Rattle.lists.specs.Shape.{shapeOf}
@@ -16,7 +15,7 @@ use Rattle.lists.proofs.Shapes.{none-of}
 use Rattle.lists.proofs.Readings.{read-passes}
 use Rattle.lists.proofs.Writings.{write-passes, write-clear}
 use Rattle.lists.proofs.RoundTrips as whole-list
-use Rattle.demands.specs.RoundTrips.{Words32, DecodeThenEncode, EncodeThenDecode, ReadThenWrite, WriteThenRead}
+use Rattle.demands.specs.RoundTrips.{DecodeThenEncode, EncodeThenDecode, ReadThenWrite, WriteThenRead}
 
 -- ---- one word
 
@@ -28,15 +27,11 @@ encode-then-decode o w e d q = decoded-is w d q ∙ one-word.encode-decode o w (
 
 -- ---- a list
 
--- as the laws of `lists` have it
-pub of-32-bits : (l : Words) → Words32 l → whole-list.Words32 l
-of-32-bits l typed = record { fits = typed .fits }
-
 pub read-then-write : ReadThenWrite
 read-then-write l typed s r e w f =
     let n : shapeOf l .number ≡ 0 = ap (λ (v : Verdict). v .number) (sym s) in
     let p = e ∙ read-passes l n in
-    (ap (λ (x : Reading). x .verdict) p, f ∙ ap (λ (x : Reading). writeOf (x .list)) p ∙ whole-list.read-write l (of-32-bits l typed) (none-of l n))
+    (ap (λ (x : Reading). x .verdict) p, f ∙ ap (λ (x : Reading). writeOf (x .list)) p ∙ whole-list.read-write l typed (none-of l n))
 
 pub write-then-read : WriteThenRead
 write-then-read o w e s r f =

@@ -7,8 +7,8 @@ use Prim.Native.Nat.{ℕ}
 use lib.Dec.{leb, eqb}
 use borrow.Author.Tests.{leb-true, eqb-true}
 use Rattle.verdicts.specs.declared.Verdict.{Verdict}
-use Rattle.verdicts.specs.Refusals.{Refusal, refusal, firstOf, verdict, success, verdictOf}
-use Rattle.verdicts.proofs.First.{NoneApply, onward, all-missed}
+use Rattle.verdicts.specs.Refusals.{Refusal, refusal, firstOf, verdict, success, verdictOf, NoneApply}
+use Rattle.verdicts.proofs.First.{onward, all-missed}
 use Rattle.objects.specs.declared.Decoded.{Decoded}
 use Rattle.objects.specs.declared.Decoded.the-variants.{Known, NotAllowed}
 use Rattle.lists.specs.Shape.{shapeRefusals}
@@ -19,10 +19,9 @@ use Rattle.rules.proofs.Checks.{check-verdict}
 use Rattle.requests.specs.Answering.{namedBy, namedRefusals, answerOf}
 use Rattle.ports.specs.declared.Row.{Row}
 use Rattle.ports.specs.RuleLists.{ruleProfile, ruleList}
-use Rattle.ports.proofs.Sound.{SoundAttached}
-use Rattle.ports.proofs.RuleLists as there
+use Rattle.ports.proofs.RuleLists.{rule-list-is, rule-profile-passes, rule-list-clear}
 use Rattle.rules.proofs.BuiltPasses.{check-clear}
-use Rattle.demands.specs.RuleLists.{Offerable, OwnRefusal, RuleListPasses, RuleListNotEmpty, RuleListTo7, RefusedByOwn}
+use Rattle.demands.specs.RuleLists.{OwnRefusal, RuleListPasses, RuleListNotEmpty, RuleListTo7, RefusedByOwn}
 
 -- ---- requests that are refused by their own numbers
 
@@ -56,27 +55,18 @@ own-named NotAllowed w = refl
 
 -- ---- the rule list
 
--- as the laws of `ports` have it, and back
-pub offerable : (y : Row) → Offerable y → there.Offerable y
-offerable y o = record { max-high = o .max-high; present-low = o .present-low; present-high = o .present-high; cable-is = o .cable-is }
-
-pub attached-offerable : (y : Row) → SoundAttached y → Offerable y
-attached-offerable y a =
-    let o = there.attached-offerable y a in
-    record { max-high = o .max-high; present-low = o .present-low; present-high = o .present-high; cable-is = o .cable-is }
-
 pub rule-list-passes : RuleListPasses
 rule-list-passes y o =
-    ap (checkedOf (ruleProfile y)) (there.rule-list-is y (offerable y o))
+    ap (checkedOf (ruleProfile y)) (rule-list-is y o)
     ∙ check-verdict (ruleProfile y) (builtWords (ruleProfile y))
-    ∙ all-missed verdict success (checkRefusals (ruleProfile y) (builtWords (ruleProfile y))) (check-clear (ruleProfile y) (there.rule-profile-passes y (offerable y o)))
+    ∙ all-missed verdict success (checkRefusals (ruleProfile y) (builtWords (ruleProfile y))) (check-clear (ruleProfile y) (rule-profile-passes y o))
 
 pub rule-list-not-empty : RuleListNotEmpty
-rule-list-not-empty y o = count-low (ruleList y .count) (there.rule-list-clear y (offerable y o) .0)
+rule-list-not-empty y o = count-low (ruleList y .count) (rule-list-clear y o .0)
 
 pub rule-list-to-7 : RuleListTo7
-rule-list-to-7 y o = count-high (ruleList y .count) (there.rule-list-clear y (offerable y o) .0)
+rule-list-to-7 y o = count-high (ruleList y .count) (rule-list-clear y o .0)
 
 pub refused-by-own : RefusedByOwn
 unfolding answerOf
-refused-by-own y o w f = own-after (shapeRefusals (ruleList y)) _ (there.rule-list-clear y (offerable y o)) (own-named (namedBy (ruleList y) w) w) f
+refused-by-own y o w f = own-after (shapeRefusals (ruleList y)) _ (rule-list-clear y o) (own-named (namedBy (ruleList y) w) w) f

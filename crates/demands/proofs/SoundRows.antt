@@ -10,8 +10,8 @@ use lib.Dec.{eqb}
 use lib.ListN.{length, length-set, length-map, set}
 use lib.Seq.{getD-set-same, getD-set-other}
 use borrow.Author.Tests.{eqb-true, eqb-false, ltb-false, le-ltb, not-false}
-use Rattle.verdicts.specs.Refusals.{Refusal, refusal, eachPlace, firstOf, success}
-use Rattle.verdicts.proofs.First.{NoneApply, none-left, none-right, none-at, none-all, none-append, all-missed}
+use Rattle.verdicts.specs.Refusals.{Refusal, refusal, eachPlace, firstOf, success, NoneApply}
+use Rattle.verdicts.proofs.First.{none-left, none-right, none-at, none-all, none-append, all-missed}
 use Rattle.steps.proofs.RangeLaws.{at-least, at-most}
 use Rattle.rules.specs.Profiles.{badCable}
 use Rattle.requests.specs.Answering.{answerOf}
@@ -24,12 +24,11 @@ use Rattle.ports.specs.Requests.{newHeld}
 use Rattle.ports.specs.Refusing.{tableRefusals, freshRows, setUpRefusals, faultRows, sumFault, soundRefusals, remainingRefusals, portRefusals, cannotAttach, attachRefusals, useRefusals, ownRefusals, noPowerNow, requestRefusals}
 use Rattle.ports.specs.Lending.{unlessRefused, setUpRows, attachRows, advertiseRows, requestRows, detachRows}
 use Rattle.ports.proofs.Sound.{SoundAttached, SoundLimits, limits-of, sound-empty, sound-attached, attached-sound, empty-sound, either-cable}
-use Rattle.ports.proofs.RuleLists.{attached-from-15}
+use Rattle.ports.proofs.RuleLists.{attached-from-15, attached-offerable}
 use Rattle.ports.proofs.Sums.{others-agree, one-apart}
 use Rattle.ports.proofs.Passing.{capacity-low, sound-at, sum-fits, rows-pass, port-at, own-fits, row-sound, use-port, attached, cable-kept}
 use Rattle.ports.proofs.Offering.{held-from-15, offered-to-max}
 use Rattle.demands.specs.SoundRows.{SoundRows, SetUpSounds, SetUpKeeps, AttachKeeps, AdvertiseKeeps, DetachKeeps, RequestKeeps}
-use Rattle.demands.proofs.RuleLists.{attached-offerable}
 use Rattle.demands.proofs.AcceptedPower.{held-to-P}
 use Rattle.demands.proofs.AcceptedPower as accepted
 

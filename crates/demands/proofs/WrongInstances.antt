@@ -6,8 +6,7 @@ use mathlib.Core.List.{List, []}
 use Prim.Native.Nat.{ℕ, _-_, _<_}
 use native.Mathlib.Omega.{arith}
 use lib.ListN.{getD}
-use Rattle.verdicts.specs.Refusals.{firstOf, eachPlace, success}
-use Rattle.verdicts.proofs.First.{NoneApply}
+use Rattle.verdicts.specs.Refusals.{firstOf, eachPlace, success, NoneApply}
 use Rattle.steps.specs.Rounding.{downOf, upOf}
 use Rattle.objects.specs.Bits.{bits}
 use Rattle.objects.specs.Decode.{decodeOf, reservedSet}

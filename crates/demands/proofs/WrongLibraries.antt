@@ -9,8 +9,8 @@ use lib.Dec.{eqb}
 use lib.ListN.{length}
 use borrow.Author.Tests.{not-false}
 use Rattle.verdicts.specs.declared.Verdict.{Verdict}
-use Rattle.verdicts.specs.Refusals.{success}
-use Rattle.verdicts.proofs.First.{NoneApply, all-missed}
+use Rattle.verdicts.specs.Refusals.{success, NoneApply}
+use Rattle.verdicts.proofs.First.{all-missed}
 use Rattle.steps.proofs.RangeLaws.{inside}
 use Rattle.lists.specs.declared.Words.{Words}
 use Rattle.lists.specs.declared.Listing.{Listing}

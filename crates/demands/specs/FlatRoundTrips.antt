@@ -9,7 +9,7 @@ use Rattle.verdicts.specs.Refusals.{success}
 use Rattle.objects.specs.declared.Object.{Object}
 use Rattle.lists.specs.declared.Words.{Words}
 use Rattle.lists.specs.declared.Listing.{Listing}
-use Rattle.lists.specs.Kept.{keptWords}
+use Rattle.lists.specs.Kept.{keptWords, Words32}
 use Rattle.flat.specs.declared.FlatObject.{FlatObject}
 use Rattle.flat.specs.declared.FlatObjects.{FlatObjects}
 use Rattle.flat.specs.declared.FlatReading.{FlatReading}
@@ -18,7 +18,6 @@ use Rattle.flat.specs.declared.Raised.the-variants.{Known}
 use Rattle.flat.specs.Flat.{ownFields}
 use Rattle.flat.specs.Reading.{emptyFlat}
 use Rattle.flat.specs.Kept.{keptFlat}
-use Rattle.demands.specs.RoundTrips.{Words32}
 use Rattle.demands.specs.FlatContracts.{FlattenAnswers, RaiseAnswers, ArinShapeAnswers, ArinReadAnswers, ArinWriteAnswers}
 
 -- ---- one object

@@ -3,23 +3,17 @@
 -- the theorem of its name in small letters in proofs/FlatUnread.antt.
 -- Assumes nothing.
 use mathlib.Core.Path.{_≡_}
-use Prim.Native.Nat.{ℕ, _<_}
-use lib.ListN.{getD}
+use Prim.Native.Nat.{ℕ}
 use Rattle.verdicts.specs.declared.Verdict.{Verdict}
 use Rattle.lists.specs.declared.Words.{Words}
 use Rattle.lists.specs.declared.Listing.{Listing}
+use Rattle.lists.specs.Unread.{AgreeWords}
 use Rattle.rules.specs.declared.Profile.{Profile}
 use Rattle.flat.specs.declared.FlatObjects.{FlatObjects}
 use Rattle.flat.specs.declared.FlatReading.{FlatReading}
-use Rattle.flat.specs.Reading.{emptyFlat}
-use Rattle.demands.specs.Unread.{AgreeWords}
+use Rattle.flat.specs.Unread.{AgreeFlat}
 use Rattle.demands.specs.FlatContracts.{FlatReadAnswers, FlatWriteAnswers}
 use Rattle.demands.specs.FlatContracts.{ArinCheckAnswers, ArinShapeAnswers, ArinReadAnswers, ArinWriteAnswers, ArinAnswerAnswers}
-
--- the same count, and the same flat objects up to it
-pub record AgreeFlat (f g : FlatObjects) : Type 0 where
-  pub count : f .count ≡ g .count
-  pub places : (k : ℕ) → k < f .count → getD (f .places) k emptyFlat ≡ getD (g .places) k emptyFlat
 
 -- ---- flat
 

@@ -8,17 +8,9 @@ use mathlib.Core.Logic.{_⊎_}
 use Prim.Native.Nat.{ℕ}
 use lib.Dec.{eqb}
 use Rattle.objects.specs.declared.Object.{Object}
-use Rattle.objects.specs.declared.Object.the-variants.{Fixed, Battery, Variable, Pps, Avs}
 use Rattle.objects.specs.declared.Decoded.the-variants.{Known, NotAllowed}
+use Rattle.objects.specs.Decode.{kindNumber}
 use Rattle.demands.specs.CallContracts.{DecodeAnswers, IsKindAnswers}
-
--- the number of each kind: bits 31..30 where they are 00b, 01b or 10b, else bits 31..28
-abbrev pub kindNumber : Object → ℕ
-kindNumber (Fixed f p v a) = 0
-kindNumber (Battery x m p) = 1
-kindNumber (Variable x m a) = 2
-kindNumber (Pps l x m a) = 12
-kindNumber (Avs p l h) = 14
 
 -- of a word with an object: the number of its kind, and no other
 abbrev pub IsKindAgrees : Type 0

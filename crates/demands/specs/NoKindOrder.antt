@@ -8,7 +8,7 @@ use mathlib.Core.Bool.{false, not}
 use Prim.Native.Nat.{ℕ, _+_, _<_}
 use lib.Dec.{eqb}
 use lib.ListN.{getD}
-use Rattle.verdicts.specs.Refusals.{eachPlace}
+use Rattle.verdicts.specs.Refusals.{eachPlace, NoneApply}
 use Rattle.objects.specs.Encode.{encodedNumber}
 use Rattle.lists.specs.declared.Listing.{Listing}
 use Rattle.lists.specs.Shape.{badCount, isFixed5V, wordRows}
@@ -17,7 +17,6 @@ use Rattle.flat.specs.declared.FlatObject.{FlatObject}
 use Rattle.flat.specs.declared.FlatObjects.{FlatObjects}
 use Rattle.flat.specs.Reading.{emptyFlat}
 use Rattle.flat.specs.Writing.{encodedFlatAt, flatWords}
-use Rattle.demands.specs.Refusals.{NoneApply}
 use Rattle.demands.specs.FlatContracts.{ArinWriteAnswers}
 
 -- the object at place k + 1

@@ -6,12 +6,11 @@
 -- Calls whose answer is an enum are in EnumRefusals, those of C in FlatRefusals, those over rows in SharingRefusals.
 -- Assumes nothing.
 use mathlib.Core.Path.{_≡_}
-use mathlib.Core.Bool.{true, false}
-use mathlib.Core.List.{List, [], _∷_, _++_}
+use mathlib.Core.List.{List}
 use mathlib.Core.Logic.{_↔_}
 use Prim.Native.Nat.{ℕ}
 use Rattle.verdicts.specs.declared.Verdict.{Verdict}
-use Rattle.verdicts.specs.Refusals.{Refusal, refusal, verdict, success}
+use Rattle.verdicts.specs.Refusals.{Refusal, verdict, success, NoneApply, First}
 use Rattle.steps.specs.declared.HalfWatts.{HalfWatts}
 use Rattle.objects.specs.declared.Object.{Object}
 use Rattle.lists.specs.declared.Words.{Words}
@@ -28,18 +27,6 @@ use Rattle.rules.specs.Checking.{checkRefusals}
 use Rattle.requests.specs.Judging.{refusalsOf}
 use Rattle.requests.specs.Answering.{answerRefusals}
 use Rattle.demands.specs.CallContracts.{ShapeAnswers, ReadAnswers, WriteAnswers, DefaultAnswers, BuildAnswers, CheckAnswers, AnswerAnswers, JudgeAnswers}
-
--- no row of a table applies
-abbrev pub NoneApply : List Refusal → Type 0
-NoneApply [] = Unit {0}
-NoneApply (refusal b n p ∷ rs) = (b ≡ false) × NoneApply rs
-
--- a row with number n and place p applies, and no row before it does
-pub record First (rs : List Refusal) (n p : ℕ) : Type 0 where
-  pub before : List Refusal
-  pub after : List Refusal
-  pub stands : rs ≡ before ++ (refusal true n p ∷ after)
-  pub clear : NoneApply before
 
 -- a verdict answers a table: success exactly when no row applies, and a row's number and place exactly when it is the first that applies
 abbrev pub Answers : Verdict → List Refusal → Type 0

@@ -5,7 +5,6 @@
 use mathlib.Core.Path.{_≡_}
 use mathlib.Core.Bool.{Bool, false}
 use Prim.Native.Nat.{ℕ, _^_, _<_}
-use lib.ListN.{getD}
 use Rattle.verdicts.specs.Refusals.{success}
 use Rattle.objects.specs.declared.Object.{Object}
 use Rattle.objects.specs.declared.Decoded.{Decoded}
@@ -16,7 +15,7 @@ use Rattle.lists.specs.declared.Words.{Words}
 use Rattle.lists.specs.declared.Objects.{Objects}
 use Rattle.lists.specs.declared.Reading.{Reading}
 use Rattle.lists.specs.declared.Listing.{Listing}
-use Rattle.lists.specs.Kept.{keptWords, keptObjects}
+use Rattle.lists.specs.Kept.{keptWords, keptObjects, Words32}
 use Rattle.demands.specs.CallContracts.{DecodeAnswers, ReservedAnswers, EncodeAnswers, ShapeAnswers, ReadAnswers, WriteAnswers}
 
 -- ---- one word
@@ -32,10 +31,6 @@ abbrev pub EncodeThenDecode : Type 0
 EncodeThenDecode = (o : Object) (w : ℕ) → EncodeAnswers o (Word w) → (d : Decoded) → DecodeAnswers w d → d ≡ Known o
 
 -- ---- a list
-
--- each word has 32 bits, as its type in the source says
-pub record Words32 (l : Words) : Type 0 where
-  pub fits : (k : ℕ) → getD (l .words) k 0 < 2 ^ 32
 
 -- a list whose shape passes reads and writes back to the same words, zero past the count
 abbrev pub ReadThenWrite : Type 0

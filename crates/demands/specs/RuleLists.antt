@@ -2,25 +2,17 @@
 -- the request's own only, never for the shape of the list. No request that is accepted on it has more power than the row's P, so what a port
 -- holds stays within 15 .. P. Each claim is proved by the theorem of its name in small letters: the first four in proofs/RuleLists.antt, the last
 -- three in proofs/AcceptedPower.antt (docs/STATEMENT.md, "Ports that share").
--- They are over the definitions that the contracts cite: `ruleList`, `checkedOf` and `answerOf`.
+-- `Offerable` (ports, specs/RuleLists) is a row for which a list can be built. The claims are over the definitions that the contracts cite: `ruleList`, `checkedOf` and `answerOf`.
 -- Assumes nothing.
 use mathlib.Core.Path.{_≡_}
-use mathlib.Core.Logic.{_⊎_}
 use Prim.Native.Nat.{ℕ, _≤_}
 use Rattle.verdicts.specs.declared.Verdict.{Verdict}
 use Rattle.verdicts.specs.Refusals.{success}
 use Rattle.rules.specs.Checking.{checkedOf}
 use Rattle.requests.specs.Answering.{answerOf}
 use Rattle.ports.specs.declared.Row.{Row}
-use Rattle.ports.specs.RuleLists.{ruleProfile, ruleList}
+use Rattle.ports.specs.RuleLists.{ruleProfile, ruleList, Offerable}
 use Rattle.ports.specs.Requests.{powerOf, newHeld}
-
--- a row that can be offered: one for which a list can be built. Each attached port of sound rows is one
-pub record Offerable (y : Row) : Type 0 where
-  pub max-high : y .max .0 ≤ 200
-  pub present-low : 1 ≤ y .present .0
-  pub present-high : y .present .0 ≤ y .max .0
-  pub cable-is : (y .cable ≡ 3) ⊎ (y .cable ≡ 5)
 
 -- ---- the list
 

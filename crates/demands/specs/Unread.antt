@@ -1,29 +1,19 @@
 -- Places past the count are not read: two lists that agree up to their count get the same answer, whatever stands past it. This holds for
 -- every call that takes a list (docs/STATEMENT.md, "Lists in hand"). Each claim is proved by the theorem of its name in small letters
 -- (`shape-does-not-look` is `ShapeDoesNotLook`) in proofs/Unread.antt.
--- A list in hand is looked up from 0 on: its first word is `getD (l .words) 0 0`, and those below the count are its words.
+-- `AgreeWords` and `AgreeObjects` (lists, specs/Unread): the same count, and the same up to it. There a list is looked up from 0 on: its first word is
+-- `getD (l .words) 0 0`, and those below the count are its words.
 -- Assumes nothing.
 use mathlib.Core.Path.{_≡_}
-use Prim.Native.Nat.{ℕ, _<_}
-use lib.ListN.{getD}
+use Prim.Native.Nat.{ℕ}
 use Rattle.verdicts.specs.declared.Verdict.{Verdict}
 use Rattle.lists.specs.declared.Words.{Words}
 use Rattle.lists.specs.declared.Objects.{Objects}
 use Rattle.lists.specs.declared.Reading.{Reading}
 use Rattle.lists.specs.declared.Listing.{Listing}
-use Rattle.lists.specs.Reading.{emptyPlace}
+use Rattle.lists.specs.Unread.{AgreeWords, AgreeObjects}
 use Rattle.rules.specs.declared.Profile.{Profile}
 use Rattle.demands.specs.CallContracts.{ShapeAnswers, ReadAnswers, WriteAnswers, CheckAnswers, AnswerAnswers}
-
--- the same count, and the same words up to it
-pub record AgreeWords (l m : Words) : Type 0 where
-  pub count : l .count ≡ m .count
-  pub words : (k : ℕ) → k < l .count → getD (l .words) k 0 ≡ getD (m .words) k 0
-
--- the same count, and the same objects up to it
-pub record AgreeObjects (o q : Objects) : Type 0 where
-  pub count : o .count ≡ q .count
-  pub places : (k : ℕ) → k < o .count → getD (o .places) k emptyPlace ≡ getD (q .places) k emptyPlace
 
 abbrev pub ShapeDoesNotLook : Type 0
 ShapeDoesNotLook = (l m : Words) → AgreeWords l m → (r s : Verdict) → ShapeAnswers l r → ShapeAnswers m s → r ≡ s

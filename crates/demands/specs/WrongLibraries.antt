@@ -13,7 +13,7 @@ use mathlib.Core.List.{List}
 use Prim.Native.Nat.{ℕ, _-_, _≤_, _<_}
 use lib.ListN.{length}
 use Rattle.verdicts.specs.declared.Verdict.{Verdict}
-use Rattle.verdicts.specs.Refusals.{success}
+use Rattle.verdicts.specs.Refusals.{success, NoneApply}
 use Rattle.lists.specs.declared.Words.{Words}
 use Rattle.lists.specs.declared.Listing.{Listing}
 use Rattle.rules.specs.declared.Profile.{Profile}
@@ -24,7 +24,6 @@ use Rattle.ports.specs.declared.RemainingPower.{RemainingPower}
 use Rattle.ports.specs.Rows.{portRow, together}
 use Rattle.ports.specs.Refusing.{setUpRefusals}
 use Rattle.board.specs.Promises.{SharesAttach, SharesAdvertise, SharesRequest, SharesDetach, SharesRemaining}
-use Rattle.demands.specs.Refusals.{NoneApply}
 use Rattle.demands.specs.MarkedCases.{fixed}
 use Rattle.demands.specs.Runs.{Event, Step, Run}
 use Rattle.demands.specs.Figures.{Known, figures, smaller, newFigure, maxOf, known, IsAttached, CanAttach}

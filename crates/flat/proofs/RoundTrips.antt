@@ -8,8 +8,8 @@ use native.Mathlib.Omega.{arith}
 use borrow.Author.Tests.{ltb-true, ltb-false}
 use lib.Dec.{eqb, ltb}
 use lib.ListN.{getD}
-use Rattle.verdicts.specs.Refusals.{eachPlace, success}
-use Rattle.verdicts.proofs.First.{NoneApply, none-right}
+use Rattle.verdicts.specs.Refusals.{eachPlace, success, NoneApply}
+use Rattle.verdicts.proofs.First.{none-right}
 use Rattle.objects.specs.declared.Object.{Object}
 use Rattle.objects.specs.Decode.{decodeOf, decodedNumber}
 use Rattle.objects.specs.Encode.{encodeOf}

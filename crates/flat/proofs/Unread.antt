@@ -1,20 +1,13 @@
 -- Places past the count are not read: flat lists that agree up to the count are written alike.
 -- Assumes nothing.
 use mathlib.Core.Path.{_≡_, ap, _∙_}
-use Prim.Native.Nat.{ℕ, _<_}
-use lib.ListN.{getD}
 use Rattle.lists.specs.Writing.{writtenFrom}
 use Rattle.lists.proofs.Unread.{same-written}
 use Rattle.flat.specs.declared.FlatObject.{FlatObject}
 use Rattle.flat.specs.declared.FlatObjects.{FlatObjects}
 use Rattle.flat.specs.Flat.{raisedOf}
-use Rattle.flat.specs.Reading.{emptyFlat}
 use Rattle.flat.specs.Writing.{encodedRaised, encodedFlatAt, flatWriteOf}
-
--- the same count, and the same flat objects up to it
-pub record AgreeFlat (f g : FlatObjects) : Type 0 where
-  pub count : f .count ≡ g .count
-  pub places : (k : ℕ) → k < f .count → getD (f .places) k emptyFlat ≡ getD (g .places) k emptyFlat
+use Rattle.flat.specs.Unread.{AgreeFlat}
 
 module _ (f g : FlatObjects) (a : AgreeFlat f g) where
   pub flat-write-unread : flatWriteOf f ≡ flatWriteOf g

@@ -2,4 +2,5 @@ pub mod Flat
 pub mod Reading
 pub mod Writing
 pub mod Kept
+pub mod Unread
 pub mod Promises

@@ -3,8 +3,8 @@
 use mathlib.Core.Path.{_≡_, refl, sym, ap, _∙_}
 use Prim.Native.Nat.{ℕ}
 use Rattle.verdicts.specs.declared.Verdict.{Verdict}
-use Rattle.verdicts.specs.Refusals.{success}
-use Rattle.verdicts.proofs.First.{NoneApply, all-missed, passes, refused-so, onto}
+use Rattle.verdicts.specs.Refusals.{success, NoneApply}
+use Rattle.verdicts.proofs.First.{all-missed, passes, refused-so, onto}
 use Rattle.lists.specs.declared.Words.{Words}
 use Rattle.lists.specs.declared.Reading.{Reading}
 use Rattle.lists.specs.Shape.{shapeRefusals, shapeOf}

@@ -9,8 +9,8 @@ use native.Mathlib.Omega.{arith}
 use lib.Dec.{eqb}
 use lib.ListN.{getD}
 use Rattle.verdicts.specs.declared.Verdict.{Verdict}
-use Rattle.verdicts.specs.Refusals.{Refusal, eachPlace, success, verdictOf}
-use Rattle.verdicts.proofs.First.{NoneApply, none-append, none-left, none-right, none-at, none-all, none-applied, onto}
+use Rattle.verdicts.specs.Refusals.{Refusal, eachPlace, success, verdictOf, NoneApply}
+use Rattle.verdicts.proofs.First.{none-append, none-left, none-right, none-at, none-all, none-applied, onto}
 use Rattle.objects.specs.declared.Object.{Object}
 use Rattle.objects.specs.declared.Decoded.{Decoded}
 use Rattle.objects.specs.declared.Decoded.the-variants.{Known, NotAllowed}
@@ -29,17 +29,13 @@ use Rattle.lists.specs.Shape.{wordRows, shapeRefusals, shapeOf}
 use Rattle.lists.specs.Seven.{sevenTo}
 use Rattle.lists.specs.Reading.{emptyPlace, objectOf, placeOf, objectsOf, readOf}
 use Rattle.lists.specs.Writing.{encodedAt, wideRows, wordIn, wordsOf, writeRefusals, writeRefused, writeOf}
-use Rattle.lists.specs.Kept.{keptWords, keptObjects}
+use Rattle.lists.specs.Kept.{keptWords, keptObjects, Words32}
 use Rattle.lists.proofs.Judging.{has-object}
 use Rattle.lists.proofs.Sevens.{filled-at, same-seven}
 use Rattle.lists.proofs.Shapes.{count-high, word-passes, none-of}
 use Rattle.lists.proofs.Readings.{readAs, read-clear}
 use Rattle.lists.proofs.Writings.{writtenAs, write-numbered, write-clear}
 use Rattle.lists.proofs.Unread.{same-shape-rows}
-
--- what the type says of a list's words: each has 32 bits
-pub record Words32 (l : Words) : Type 0 where
-  pub fits : (k : ℕ) → getD (l .words) k 0 < 2 ^ 32
 
 -- ---- words, objects, words
 

@@ -12,8 +12,8 @@ use lib.ListN.{getD}
 use borrow.Author.Tests.{ltb-true, eqb-true, eqb-false, ne-eqb, not-false}
 use Rattle.steps.specs.declared.Ma10.{Ma10}
 use Rattle.verdicts.specs.declared.Verdict.{Verdict}
-use Rattle.verdicts.specs.Refusals.{eachPlace, firstOf, verdict, success, verdictOf}
-use Rattle.verdicts.proofs.First.{NoneApply, hit, all-missed, none-at, none-all, decided, none-applied, numbered-places}
+use Rattle.verdicts.specs.Refusals.{eachPlace, firstOf, verdict, success, verdictOf, NoneApply}
+use Rattle.verdicts.proofs.First.{hit, all-missed, none-at, none-all, decided, none-applied, numbered-places}
 use Rattle.objects.specs.declared.Object.{Object}
 use Rattle.objects.specs.declared.Object.the-variants.{Fixed, Battery, Variable, Pps, Avs}
 use Rattle.objects.specs.declared.Decoded.{Decoded}

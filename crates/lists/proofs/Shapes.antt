@@ -9,8 +9,8 @@ use lib.ListN.{getD}
 use borrow.Author.Tests.{lt-ltb, le-ltb, ltb-true, ltb-false}
 use Rattle.verdicts.proofs.Bools.{either-false}
 use Rattle.verdicts.specs.declared.Verdict.{Verdict}
-use Rattle.verdicts.specs.Refusals.{Refusal, refusal, eachPlace, firstOf, verdict, success, verdictOf}
-use Rattle.verdicts.proofs.First.{hit, miss, onward, NoneApply, numbered, numbered-append, numbered-places, none-applied, none-left, none-right, none-at}
+use Rattle.verdicts.specs.Refusals.{Refusal, refusal, eachPlace, firstOf, verdict, success, verdictOf, NoneApply}
+use Rattle.verdicts.proofs.First.{hit, miss, onward, numbered, numbered-append, numbered-places, none-applied, none-left, none-right, none-at}
 use Rattle.lists.specs.declared.Words.{Words}
 use Rattle.lists.specs.Shape.{badCount, isFixed5V, wordRows, avsRows, shapeRefusals, shapeOf}
 

@@ -26,14 +26,10 @@ use Rattle.lists.specs.declared.Listing.{Listing}
 use Rattle.lists.specs.Shape.{badCount, isFixed5V, wordRefusals, wordRows, fixedWith, hasFixed, avsDiffers, avsRows, shapeRefusals, shapeOf}
 use Rattle.lists.specs.Reading.{emptyPlace, objectOf, placeOf, readRefused, readOf}
 use Rattle.lists.specs.Writing.{wideRows, wordIn, wordsFrom, writingRefusals, writeRefused, writtenFrom, encodedAt, writeOf}
+use Rattle.lists.specs.Unread.{AgreeWords, AgreeObjects}
 use Rattle.lists.proofs.Shapes.{count-low}
 use Rattle.lists.proofs.Sevens.{same-seven}
 use Rattle.lists.proofs.Readings.{readAs}
-
--- the same count, and the same words up to it
-pub record AgreeWords (l m : Words) : Type 0 where
-  pub count : l .count ≡ m .count
-  pub words : (k : ℕ) → k < l .count → getD (l .words) k 0 ≡ getD (m .words) k 0
 
 -- a list of these words
 abbrev pub counting : List ℕ → ℕ → Words
@@ -42,10 +38,6 @@ counting ws n = record { words = ws; count = n }
 -- with the other list's count the list is the other
 pub recounted : {A : Type 0} (f : Words → A) (l m : Words) → AgreeWords l m → f (counting (m .words) (l .count)) ≡ f m
 recounted f l m a = ap (λ (n : ℕ). f (counting (m .words) n)) (a .count)
-
-pub record AgreeObjects (o q : Objects) : Type 0 where
-  pub count : o .count ≡ q .count
-  pub places : (k : ℕ) → k < o .count → getD (o .places) k emptyPlace ≡ getD (q .places) k emptyPlace
 
 module _ (ws vs : List ℕ) (n : ℕ) (e : (k : ℕ) → k < n → getD ws k 0 ≡ getD vs k 0) where
   same-word-rows : (k : ℕ) → k < n → wordRows ws k ≡ wordRows vs k

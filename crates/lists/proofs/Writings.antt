@@ -5,8 +5,8 @@ use mathlib.Core.Bool.{true, false}
 use mathlib.Core.List.{List, _∷_, _++_}
 use Prim.Native.Nat.{ℕ}
 use Rattle.verdicts.specs.declared.Verdict.{Verdict}
-use Rattle.verdicts.specs.Refusals.{Refusal, refusal, eachPlace, firstOf, success, verdictOf}
-use Rattle.verdicts.proofs.First.{NoneApply, hit, miss, onward, onto, all-missed, refused-so, none-applied, passes, none-append, numbered, numbered-append, numbered-places}
+use Rattle.verdicts.specs.Refusals.{Refusal, refusal, eachPlace, firstOf, success, verdictOf, NoneApply}
+use Rattle.verdicts.proofs.First.{hit, miss, onward, onto, all-missed, refused-so, none-applied, passes, none-append, numbered, numbered-append, numbered-places}
 use Rattle.objects.specs.declared.Encoded.{Encoded}
 use Rattle.lists.specs.declared.Listing.{Listing}
 use Rattle.lists.specs.Shape.{badCount, shapeRefusals, shapeOf}

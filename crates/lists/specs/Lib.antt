@@ -7,4 +7,5 @@ pub mod Judging
 pub mod Scanning
 pub mod Making
 pub mod Kept
+pub mod Unread
 pub mod Promises

@@ -9,7 +9,7 @@ use lib.Pow.{mod-pow-add, shr-shr}
 use lib.Dec.{eqb}
 use borrow.Author.Tests.{eqb-true, eqb-false, ne-eqb}
 use Rattle.objects.specs.Bits.{bits}
-use Rattle.objects.specs.Decode.{byAugmented, byKind, kindBits, isKind, decodeOf}
+use Rattle.objects.specs.Decode.{byAugmented, byKind, kindBits, isKind, decodeOf, kindNumber}
 use Rattle.objects.specs.declared.Object.{Object}
 use Rattle.objects.specs.declared.Object.the-variants.{Fixed, Battery, Variable, Pps, Avs}
 use Rattle.objects.specs.declared.Decoded.{Decoded}
@@ -99,14 +99,6 @@ module _ (w : ℕ) where
       (λ x. ap (λ (n : ℕ). eqb n kind) (sym (kind-long (x .0)))) short-or-long
 
 -- ---- the number of a kind agrees with what a word is decoded to
-
--- the number of each kind
-abbrev pub kindNumber : Object → ℕ
-kindNumber (Fixed f p v a) = 0
-kindNumber (Battery x m p) = 1
-kindNumber (Variable x m a) = 2
-kindNumber (Pps l x m a) = 12
-kindNumber (Avs p l h) = 14
 
 -- of what a word is decoded to: that of its object, or one of the two that are not allowed
 abbrev Tells : ℕ → Decoded → Type 0

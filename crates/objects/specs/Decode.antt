@@ -40,6 +40,14 @@ kindBits w = cond (eqb (bits w 31 30) 3) (bits w 31 28) (bits w 31 30)
 abbrev pub isKind : ℕ → ℕ → Bool
 isKind w kind = eqb (kindBits w) kind
 
+-- the number of each kind: bits 31..30 where they are 00b, 01b or 10b, else bits 31..28; no contract cites this
+abbrev pub kindNumber : Object → ℕ
+kindNumber (Fixed f p v a) = 0
+kindNumber (Battery x m p) = 1
+kindNumber (Variable x m a) = 2
+kindNumber (Pps l x m a) = 12
+kindNumber (Avs p l h) = 14
+
 -- 11b: 00b is PPS and 10b SPR AVS; 01b is "not allowed (EPR AVS)" and 11b "not allowed (no kind)"
 abbrev pub byAugmented : ℕ → ℕ → Decoded
 byAugmented zero w = Known (ppsOf w)

@@ -6,8 +6,8 @@ use mathlib.Core.List.{List, _++_}
 use Prim.Native.Nat.{ℕ, _≤_}
 use borrow.Author.Tests.{ltb-false}
 use Rattle.verdicts.specs.declared.Verdict.{Verdict}
-use Rattle.verdicts.specs.Refusals.{Refusal, firstOf, verdict, success, verdictOf}
-use Rattle.verdicts.proofs.First.{NoneApply, none-left, none-right, onward, all-missed, numbered-append, Telling, telling-append, telling-numbered, telling-given, none-told}
+use Rattle.verdicts.specs.Refusals.{Refusal, firstOf, verdict, success, verdictOf, NoneApply}
+use Rattle.verdicts.proofs.First.{none-left, none-right, onward, all-missed, numbered-append, Telling, telling-append, telling-numbered, telling-given, none-told}
 use Rattle.steps.proofs.RangeLaws.{at-least}
 use Rattle.requests.proofs.Answers.{answer-numbered}
 use Rattle.ports.specs.declared.Row.{Row}

@@ -9,8 +9,8 @@ use native.Mathlib.Omega.{arith}
 use lib.Dec.{ltb, eqb}
 use borrow.Author.Tests.{ltb-true, ne-eqb}
 use Rattle.verdicts.specs.declared.Verdict.{Verdict}
-use Rattle.verdicts.specs.Refusals.{Refusal, refusal, firstOf, verdictOf, success}
-use Rattle.verdicts.proofs.First.{NoneApply, none-applied, numbered, refused-so, stops, goes-on, passes}
+use Rattle.verdicts.specs.Refusals.{Refusal, refusal, firstOf, verdictOf, success, NoneApply}
+use Rattle.verdicts.proofs.First.{none-applied, numbered, refused-so, stops, goes-on, passes}
 
 abbrev number : Verdict → ℕ
 number v = v .number

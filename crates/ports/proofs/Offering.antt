@@ -9,18 +9,17 @@ use native.Mathlib.Omega.{arith}
 use lib.Dec.{eqb}
 use borrow.Author.Tests.{not-false}
 use Rattle.verdicts.specs.declared.Verdict.{Verdict}
-use Rattle.verdicts.specs.Refusals.{success}
-use Rattle.verdicts.proofs.First.{NoneApply}
+use Rattle.verdicts.specs.Refusals.{success, NoneApply}
 use Rattle.lists.specs.declared.Listing.{Listing}
 use Rattle.rules.specs.Profiles.{badCable}
 use Rattle.rules.specs.Building.{builtOf}
 use Rattle.ports.specs.declared.Row.{Row}
 use Rattle.ports.specs.Rows.{portRow, leftFor, presentFor, offering, offered}
 use Rattle.ports.specs.Soundness.{soundRow}
-use Rattle.ports.specs.RuleLists.{ruleProfile, ruleList}
+use Rattle.ports.specs.RuleLists.{ruleProfile, ruleList, Offerable}
 use Rattle.ports.specs.Refusing.{portRefusals}
 use Rattle.ports.proofs.Sound.{sound-empty, sound-attached, limits-of, either-cable}
-use Rattle.ports.proofs.RuleLists.{Offerable, rule-list-built}
+use Rattle.ports.proofs.RuleLists.{rule-list-built}
 use Rattle.ports.proofs.Passing.{row-sound, own-fits}
 
 -- every row of sound rows holds at least 15

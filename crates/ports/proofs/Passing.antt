@@ -8,8 +8,8 @@ use native.Mathlib.Omega.{arith}
 use lib.Dec.{eqb}
 use lib.ListN.{length}
 use borrow.Author.Tests.{ltb-false, not-false, not-true}
-use Rattle.verdicts.specs.Refusals.{eachPlace}
-use Rattle.verdicts.proofs.First.{NoneApply, none-left, none-right, none-at, numbered, numbered-append, numbered-places}
+use Rattle.verdicts.specs.Refusals.{eachPlace, NoneApply}
+use Rattle.verdicts.proofs.First.{none-left, none-right, none-at, numbered, numbered-append, numbered-places}
 use Rattle.steps.proofs.RangeLaws.{at-least, at-most}
 use Rattle.rules.specs.Profiles.{badCable}
 use Rattle.requests.proofs.Answers.{answer-numbered}

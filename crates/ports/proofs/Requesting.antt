@@ -9,8 +9,8 @@ use lib.Dec.{ltb, eqb}
 use lib.ListN.{getD}
 use borrow.Author.Tests.{not-false, ltb-true, ltb-false, eqb-true, eqb-false}
 use Rattle.verdicts.specs.declared.Verdict.{Verdict}
-use Rattle.verdicts.specs.Refusals.{refusal, firstOf, verdict, success, verdictOf}
-use Rattle.verdicts.proofs.First.{NoneApply, none-applied, onward, all-missed}
+use Rattle.verdicts.specs.Refusals.{refusal, firstOf, verdict, success, verdictOf, NoneApply}
+use Rattle.verdicts.proofs.First.{none-applied, onward, all-missed}
 use Rattle.steps.specs.Ranges.{within}
 use Rattle.steps.proofs.RangeLaws.{inside, at-least, at-most}
 use Rattle.objects.specs.declared.Object.{Object}

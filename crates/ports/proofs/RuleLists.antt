@@ -7,8 +7,7 @@ use Prim.Native.Nat.{_≤_}
 use native.Mathlib.Omega.{arith}
 use lib.Dec.{ltb, eqb}
 use borrow.Author.Tests.{le-ltb, eqb-true}
-use Rattle.verdicts.specs.Refusals.{verdict, success}
-use Rattle.verdicts.proofs.First.{NoneApply}
+use Rattle.verdicts.specs.Refusals.{verdict, success, NoneApply}
 use Rattle.steps.proofs.RangeLaws.{inside}
 use Rattle.lists.specs.declared.Words.{Words}
 use Rattle.lists.specs.declared.Listing.{Listing}
@@ -18,14 +17,8 @@ use Rattle.rules.specs.Building.{builtWords, builtOf}
 use Rattle.rules.proofs.Builds.{build-clear}
 use Rattle.rules.proofs.BuiltPasses.{shape-clear}
 use Rattle.ports.specs.declared.Row.{Row}
-use Rattle.ports.specs.RuleLists.{rulePps, ruleProfile, ruleList}
+use Rattle.ports.specs.RuleLists.{rulePps, ruleProfile, ruleList, Offerable}
 use Rattle.ports.proofs.Sound.{SoundAttached, cable-good}
-
-pub record Offerable (y : Row) : Type 0 where
-  pub max-high : y .max .0 ≤ 200
-  pub present-low : 1 ≤ y .present .0
-  pub present-high : y .present .0 ≤ y .max .0
-  pub cable-is : (y .cable ≡ 3) ⊎ (y .cable ≡ 5)
 
 -- an attached port of sound rows is one, with a P of at least 15
 pub attached-from-15 : (y : Row) → SoundAttached y → 15 ≤ y .present .0

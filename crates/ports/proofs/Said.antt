@@ -11,8 +11,8 @@ use lib.ListN.{length, set}
 use lib.Seq.{set-out}
 use borrow.Author.Tests.{ltb-true, le-leb, ne-eqb}
 use Rattle.verdicts.specs.declared.Verdict.{Verdict}
-use Rattle.verdicts.specs.Refusals.{Refusal, refusal, firstOf, verdictOf, success}
-use Rattle.verdicts.proofs.First.{NoneApply, none-left, none-right, none-append, numbered, onward, onto}
+use Rattle.verdicts.specs.Refusals.{Refusal, refusal, firstOf, verdictOf, success, NoneApply}
+use Rattle.verdicts.proofs.First.{none-left, none-right, none-append, numbered, onward, onto}
 use Rattle.lists.specs.Writing.{writeRefused}
 use Rattle.rules.specs.Profiles.{halfWatts}
 use Rattle.rules.specs.Building.{builtOf}

@@ -13,8 +13,8 @@ use lib.Dec.{ltb, eqb}
 use lib.ListN.{length}
 use borrow.Author.Tests.{ltb-true, ltb-false, eqb-true, eqb-false, not-false}
 use Rattle.verdicts.specs.declared.Verdict.{Verdict}
-use Rattle.verdicts.specs.Refusals.{Refusal, eachPlace, firstOf, verdict, success, verdictOf}
-use Rattle.verdicts.proofs.First.{NoneApply, none-left, none-right, none-append, all-missed, numbered, numbered-append, numbered-places, onward}
+use Rattle.verdicts.specs.Refusals.{Refusal, eachPlace, firstOf, verdict, success, verdictOf, NoneApply}
+use Rattle.verdicts.proofs.First.{none-left, none-right, none-append, all-missed, numbered, numbered-append, numbered-places, onward}
 use Rattle.ports.specs.declared.Row.{Row}
 use Rattle.ports.specs.declared.Standing.{Standing}
 use Rattle.ports.specs.Rows.{rowOf, heldAt, allHeld, together}

@@ -1,7 +1,9 @@
 -- The rule list of a row (STATEMENT, "Rows").
 -- Assumes nothing.
+use mathlib.Core.Path.{_≡_}
 use mathlib.Core.Bool.{cond, _&&_}
-use Prim.Native.Nat.{ℕ}
+use mathlib.Core.Logic.{_⊎_}
+use Prim.Native.Nat.{ℕ, _≤_}
 use lib.Dec.{eqb}
 use Rattle.lists.specs.declared.Words.{Words}
 use Rattle.rules.specs.declared.Profile.{Profile}
@@ -26,3 +28,10 @@ ruleProfile y = record {
 -- "It is not stored: it follows from the row."
 abbrev pub ruleList : Row → Words
 ruleList y = builtOf (ruleProfile y) .list
+
+-- a row for which a list can be built; each attached port of sound rows is one. No contract cites this
+pub record Offerable (y : Row) : Type 0 where
+  pub max-high : y .max .0 ≤ 200
+  pub present-low : 1 ≤ y .present .0
+  pub present-high : y .present .0 ≤ y .max .0
+  pub cable-is : (y .cable ≡ 3) ⊎ (y .cable ≡ 5)

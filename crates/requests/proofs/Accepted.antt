@@ -6,8 +6,8 @@ use Prim.Native.Nat.{ℕ, _≤_}
 use lib.Dec.{ltb}
 use borrow.Author.Tests.{ltb-false, leb-true, not-false}
 use Rattle.verdicts.specs.declared.Verdict.{Verdict}
-use Rattle.verdicts.specs.Refusals.{verdict, success}
-use Rattle.verdicts.proofs.First.{NoneApply, none-applied, none-left, none-right, all-missed}
+use Rattle.verdicts.specs.Refusals.{verdict, success, NoneApply}
+use Rattle.verdicts.proofs.First.{none-applied, none-left, none-right, all-missed}
 use Rattle.objects.specs.declared.Object.{Object}
 use Rattle.objects.specs.declared.Decoded.{Decoded}
 use Rattle.objects.specs.declared.Decoded.the-variants.{Known}

@@ -10,7 +10,8 @@ use Rattle.verdicts.specs.Refusals.{Refusal, refusal, verdict, success, verdict
 use Rattle.verdicts.proofs.First.{hit}
 use Rattle.objects.specs.Decode.{decodeOf}
 use Rattle.lists.specs.declared.Words.{Words}
-use Rattle.lists.proofs.Unread.{AgreeWords, counting, recounted, same-past-shape}
+use Rattle.lists.specs.Unread.{AgreeWords}
+use Rattle.lists.proofs.Unread.{counting, recounted, same-past-shape}
 use Rattle.requests.specs.Taking.{positionOf}
 use Rattle.requests.specs.Answering.{badPosition, namedRefusals, objectRefusals, answerOf}
 use Rattle.requests.proofs.Answers.{position-inside}

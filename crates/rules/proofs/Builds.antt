@@ -7,8 +7,8 @@ use Prim.Native.Nat.{_≤_}
 use native.Mathlib.Omega.{arith}
 use lib.Dec.{eqb}
 use lib.ListN.{length}
-use Rattle.verdicts.specs.Refusals.{refusal, verdict, success, verdictOf}
-use Rattle.verdicts.proofs.First.{NoneApply, hit, onward, onto, all-missed, refused-so, none-append, numbered, passes}
+use Rattle.verdicts.specs.Refusals.{refusal, verdict, success, verdictOf, NoneApply}
+use Rattle.verdicts.proofs.First.{hit, onward, onto, all-missed, refused-so, none-append, numbered, passes}
 use Rattle.lists.specs.declared.Listing.{Listing}
 use Rattle.lists.specs.Writing.{noWords, writeRefused}
 use Rattle.rules.specs.declared.Profile.{Profile}

@@ -8,7 +8,7 @@ use native.Mathlib.Nat.{min-le-right, le-min, mul-le-mul}
 use native.Mathlib.Omega.{arith}
 use lib.Dec.{leb, eqb}
 use borrow.Author.Tests.{leb-true, lt-ltb, le-leb, eqb-true, not-false}
-use Rattle.verdicts.proofs.First.{NoneApply}
+use Rattle.verdicts.specs.Refusals.{NoneApply}
 use Rattle.steps.proofs.RoundingLaws.{down-greatest, down-le-up}
 use Rattle.objects.specs.declared.Encoded.the-variants.{Word}
 use Rattle.objects.specs.Layout.{allFit}

@@ -7,7 +7,7 @@ use native.Mathlib.Nat.{le-min, min-eq-left, min-eq-right}
 use native.Mathlib.Omega.{arith}
 use lib.Dec.{leb, ltb, eqb}
 use borrow.Author.Tests.{leb-true, ltb-true, ltb-false, le-leb, eq-eqb, ne-eqb, eqb-true, eqb-false}
-use Rattle.verdicts.proofs.First.{NoneApply}
+use Rattle.verdicts.specs.Refusals.{NoneApply}
 use Rattle.steps.proofs.RoundingLaws.{down-greatest, up-least, down-le-up}
 use Rattle.rules.specs.declared.Profile.{Profile}
 use Rattle.rules.specs.Profiles.{profileRefusals}

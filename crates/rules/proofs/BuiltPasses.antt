@@ -9,8 +9,8 @@ use native.Mathlib.Omega.{arith}
 use lib.Dec.{ltb, eqb, eqb·suc-zero}
 use lib.ListN.{length, getD}
 use borrow.Author.Tests.{eq-eqb, ne-eqb, ltb-true, ltb-false}
-use Rattle.verdicts.specs.Refusals.{refusal, eachPlace}
-use Rattle.verdicts.proofs.First.{NoneApply, none-append, none-left, none-right, none-all}
+use Rattle.verdicts.specs.Refusals.{refusal, eachPlace, NoneApply}
+use Rattle.verdicts.proofs.First.{none-append, none-left, none-right, none-all}
 use Rattle.objects.specs.declared.Object.{Object}
 use Rattle.objects.specs.declared.Decoded.{Decoded}
 use Rattle.objects.specs.declared.Decoded.the-variants.{Known}
@@ -26,7 +26,7 @@ use Rattle.lists.specs.Shape.{isFixed5V, outOfOrder, wordRows, fixedWith, hasFi
 use Rattle.lists.proofs.Finding.{found-at}
 use Rattle.lists.proofs.Shapes.{counted}
 use Rattle.lists.proofs.Sevens.{filled-at, past-filled}
-use Rattle.lists.proofs.RoundTrips.{Words32}
+use Rattle.lists.specs.Kept.{Words32}
 use Rattle.rules.specs.declared.Profile.{Profile}
 use Rattle.rules.specs.Profiles.{ppsBelowMaximum, profileRefusals, buildRefusals}
 use Rattle.rules.specs.Tables.{Slot, Nothing, Fixed, Avs, Prog, baseSlots, slots}

@@ -3,8 +3,8 @@
 use mathlib.Core.Path.{_≡_, refl, _∙_}
 use mathlib.Core.Bool.{true, false}
 use mathlib.Core.List.{List, _∷_, _++_}
-use Rattle.verdicts.specs.Refusals.{Refusal, refusal, eachPlace, verdict, success, verdictOf}
-use Rattle.verdicts.proofs.First.{NoneApply, hit, miss, onward, all-missed, refused-so, numbered, numbered-append, numbered-places}
+use Rattle.verdicts.specs.Refusals.{Refusal, refusal, eachPlace, verdict, success, verdictOf, NoneApply}
+use Rattle.verdicts.proofs.First.{hit, miss, onward, all-missed, refused-so, numbered, numbered-append, numbered-places}
 use Rattle.lists.specs.declared.Words.{Words}
 use Rattle.lists.specs.Shape.{shapeRefusals, shapeOf}
 use Rattle.lists.proofs.Shapes.{shape-numbered}

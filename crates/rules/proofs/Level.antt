@@ -9,7 +9,7 @@ use native.Mathlib.Omega.{arith}
 use lib.Dec.{leb, ltb, eqb}
 use lib.ListN.{getD}
 use borrow.Author.Tests.{leb-true, ltb-true, eqb-true, not-false, ne-eqb}
-use Rattle.verdicts.proofs.First.{NoneApply}
+use Rattle.verdicts.specs.Refusals.{NoneApply}
 use Rattle.objects.specs.declared.Object.{Object}
 use Rattle.objects.specs.declared.Object.the-variants as object
 use Rattle.objects.specs.declared.Decoded.{Decoded}

@@ -7,8 +7,8 @@ use Prim.Native.Nat.{ℕ, _≤_}
 use native.Mathlib.Omega.{arith}
 use lib.Dec.{ltb, eqb}
 use borrow.Author.Tests.{ltb-false, eqb-true}
-use Rattle.verdicts.specs.Refusals.{Refusal, refusal, firstOf, verdict, success, verdictOf}
-use Rattle.verdicts.proofs.First.{NoneApply, hit, miss, all-missed, numbered}
+use Rattle.verdicts.specs.Refusals.{Refusal, refusal, firstOf, verdict, success, verdictOf, NoneApply}
+use Rattle.verdicts.proofs.First.{hit, miss, all-missed, numbered}
 use Rattle.rules.specs.declared.Profile.{Profile}
 use Rattle.rules.specs.Profiles.{badCable, profileRows, profileRefusals, Within}
 use Rattle.steps.specs.Ranges.{within}

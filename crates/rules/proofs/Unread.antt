@@ -14,7 +14,8 @@ use Rattle.objects.specs.declared.Object.{Object}
 use Rattle.objects.specs.Asking.{ofObject}
 use Rattle.objects.specs.Decode.{decodeOf}
 use Rattle.lists.specs.declared.Words.{Words}
-use Rattle.lists.proofs.Unread.{AgreeWords, counting, recounted, same-past-shape}
+use Rattle.lists.specs.Unread.{AgreeWords}
+use Rattle.lists.proofs.Unread.{counting, recounted, same-past-shape}
 use Rattle.rules.specs.declared.Profile.{Profile}
 use Rattle.rules.specs.Profiles.{profileRefusals}
 use Rattle.rules.specs.Tables.{Slot, Nothing, rails, fixedSlots, avsSlots, progSlots, slots}

@@ -11,7 +11,7 @@ use native.Mathlib.Omega.{arith}
 use borrow.Author.Tests.{ltb-true, eq-eqb}
 use lib.Dec.{ltb, eqb}
 use Rattle.verdicts.specs.declared.Verdict.{Verdict}
-use Rattle.verdicts.specs.Refusals.{Refusal, refusal, eachPlace, firstOf, verdict, success, verdictOf}
+use Rattle.verdicts.specs.Refusals.{Refusal, refusal, eachPlace, firstOf, verdict, success, verdictOf, NoneApply, First}
 
 -- ---- one row
 
@@ -40,10 +40,6 @@ onto part refused (refusal true n p ∷ rs) answer = refl
 onto part refused (refusal false n p ∷ rs) answer = onto part refused rs answer
 
 -- ---- no row applies
-
-abbrev pub NoneApply : List Refusal → Type 0
-NoneApply [] = Unit {0}
-NoneApply (refusal b n p ∷ rs) = (b ≡ false) × NoneApply rs
 
 pub none-append : (xs ys : List Refusal) → NoneApply xs → NoneApply ys → NoneApply (xs ++ ys)
 none-append [] ys x y = y
@@ -177,13 +173,6 @@ module _ {A : Type 0} (refused : ℕ → ℕ → A) (xs ys : List Refusal) (answ
   goes-on t e = onward refused answer xs ys ∙ all-missed refused (firstOf refused ys answer) xs (none-applied xs t e)
 
 -- ---- the first refusal theorem (demand 1)
-
--- number n at place p applies, and no row before it does
-pub record First (rs : List Refusal) (n p : ℕ) : Type 0 where
-  pub before : List Refusal
-  pub after : List Refusal
-  pub stands : rs ≡ before ++ (refusal true n p ∷ after)
-  pub clear : NoneApply before
 
 pub given-of-first : {A : Type 0} (refused : ℕ → ℕ → A) (rs : List Refusal) (n p : ℕ) → First rs n p → (x : A) → firstOf refused rs x ≡ refused n p
 given-of-first refused rs n p f x =

@@ -1,5 +1,6 @@
 -- Refusals in order (STATEMENT, "Order"): a call has a table of refusals, one a row, and the first row that applies is the answer.
 -- Assumes nothing.
+use mathlib.Core.Path.{_≡_}
 use mathlib.Core.Bool.{Bool, true, false}
 use mathlib.Core.List.{List, [], _∷_, _++_}
 use Prim.Native.Nat.{ℕ, zero, suc}
@@ -29,3 +30,17 @@ success = verdict 0 0
 
 abbrev pub verdictOf : List Refusal → Verdict
 verdictOf rs = firstOf verdict rs success
+
+-- ---- what is claimed of a table and an answer; no contract cites these
+
+-- no row applies
+abbrev pub NoneApply : List Refusal → Type 0
+NoneApply [] = Unit {0}
+NoneApply (refusal b n p ∷ rs) = (b ≡ false) × NoneApply rs
+
+-- a row with number n and place p applies, and no row before it does
+pub record First (rs : List Refusal) (n p : ℕ) : Type 0 where
+  pub before : List Refusal
+  pub after : List Refusal
+  pub stands : rs ≡ before ++ (refusal true n p ∷ after)
+  pub clear : NoneApply before

@@ -7,8 +7,8 @@ use Prim.Native.Nat.{ℕ, _+_, _-_, _≤_}
 use native.Mathlib.Omega.{arith}
 use lib.Dec.{eqb}
 use lib.ListN.{getD}
-use Rattle.verdicts.specs.Refusals.{eachPlace, verdict, success}
-use Rattle.verdicts.proofs.First.{NoneApply, none-yet, none-more, all-missed, decided}
+use Rattle.verdicts.specs.Refusals.{eachPlace, verdict, success, NoneApply}
+use Rattle.verdicts.proofs.First.{none-yet, none-more, all-missed, decided}
 use Rattle.objects.specs.Decode.{decodeOf}
 use Rattle.lists.specs.Shape.{wordRows}
 use Rattle.lists.specs.Scanning.{OnlyAvs}

@@ -7,8 +7,8 @@ use Prim.Native.Nat.{ℕ, _+_, _-_, _≤_, _<_}
 use native.Mathlib.Omega.{arith}
 use lib.Dec.{eqb}
 use lib.ListN.{getD, set}
-use Rattle.verdicts.specs.Refusals.{eachPlace, firstOf, verdict, success}
-use Rattle.verdicts.proofs.First.{NoneApply, hit, none-yet, none-more, all-missed, decided}
+use Rattle.verdicts.specs.Refusals.{eachPlace, firstOf, verdict, success, NoneApply}
+use Rattle.verdicts.proofs.First.{hit, none-yet, none-more, all-missed, decided}
 use Rattle.objects.specs.declared.Encoded.{Encoded}
 use Rattle.objects.specs.Encode.{encodedNumber}
 use Rattle.objects.proofs.Saying.{encoded-is}

@@ -1,7 +1,7 @@
 -- `ports::deciding::attach` meets its contract.
 -- Assumes nothing.
 use mathlib.Core.Path.{sym, ap, _∙_}
-use Rattle.verdicts.proofs.First.{NoneApply}
+use Rattle.verdicts.specs.Refusals.{NoneApply}
 use Rattle.ports.specs.Rows.{offering}
 use Rattle.ports.specs.Standing.{portEndRefusals}
 use Rattle.ports.specs.Deciding.{presentBeside, noChange, changing, attachEndRefusals, attachChange}

@@ -5,7 +5,8 @@ use Prim.Native.Nat.{ℕ}
 use native.Mathlib.Omega.{arith}
 use mathlib.Core.List.{List}
 use Rattle.verdicts.specs.declared.Verdict.{Verdict}
-use Rattle.verdicts.proofs.First.{NoneApply, none-applied, passes}
+use Rattle.verdicts.specs.Refusals.{NoneApply}
+use Rattle.verdicts.proofs.First.{none-applied, passes}
 use Rattle.lists.specs.declared.Words.{Words}
 use Rattle.lists.specs.declared.Listing.{Listing}
 use Rattle.lists.specs.Writing.{writeRefused}

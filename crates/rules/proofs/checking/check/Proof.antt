@@ -3,7 +3,8 @@
 use mathlib.Core.Path.{_≡_, ap, sym, _∙_, subst}
 use Prim.Native.Nat.{ℕ, _≤_}
 use Rattle.verdicts.specs.declared.Verdict.{Verdict}
-use Rattle.verdicts.proofs.First.{NoneApply, none-applied}
+use Rattle.verdicts.specs.Refusals.{NoneApply}
+use Rattle.verdicts.proofs.First.{none-applied}
 use Rattle.lists.specs.Shape.{shapeRefusals}
 use Rattle.lists.proofs.Shapes.{none-of, count-high}
 use Rattle.rules.specs.declared.checking.Walk.{Walk}

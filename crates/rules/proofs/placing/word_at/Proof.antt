@@ -3,7 +3,8 @@
 use mathlib.Core.Path.{_≡_, sym, ap, _∙_}
 use Prim.Native.Nat.{ℕ}
 use Rattle.verdicts.specs.declared.Verdict.{Verdict}
-use Rattle.verdicts.proofs.First.{NoneApply, none-applied}
+use Rattle.verdicts.specs.Refusals.{NoneApply}
+use Rattle.verdicts.proofs.First.{none-applied}
 use Rattle.lists.specs.declared.Listing.{Listing}
 use Rattle.rules.specs.declared.Profile.{Profile}
 use Rattle.rules.specs.declared.Placed.{Placed}
