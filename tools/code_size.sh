@@ -17,50 +17,14 @@ targets=$PWD/target
 calls="arin_default_profile arin_build arin_check arin_shape arin_read arin_write arin_answer
 arin_set_up arin_attach arin_advertise arin_request arin_detach arin_remaining"
 
-# The model has no C interface of its own. Its calls get the same names, so that both sides are linked the same way.
-mkdir -p "$made/plain/src"
-cat > "$made/plain/Cargo.toml" << END
-[package]
-name = "plain-c"
-version = "0.1.0"
-edition = "2021"
-[lib]
-name = "plain_c"
-crate-type = ["staticlib"]
-[dependencies]
-model = { path = "$PWD/model" }
-[profile.release]
-codegen-units = 1
-lto = true
-panic = "abort"
-END
-cat > "$made/plain/src/lib.rs" << 'END'
-#![no_std]
-use model::*;
-#[no_mangle] pub fn arin_default_profile(max: u16) -> Profiled { default_profile(max) }
-#[no_mangle] pub fn arin_build(profile: &Profile) -> Listing { build(profile) }
-#[no_mangle] pub fn arin_check(profile: &Profile, list: &Words) -> Verdict { check(profile, list) }
-#[no_mangle] pub fn arin_shape(list: &Words) -> Verdict { shape(list) }
-#[no_mangle] pub fn arin_read(list: &Words) -> FlatReading { flat_read(list) }
-#[no_mangle] pub fn arin_write(list: &FlatObjects) -> Listing { flat_write(list) }
-#[no_mangle] pub fn arin_answer(list: &Words, word: u32) -> Verdict { answer(list, word) }
-#[no_mangle] pub fn arin_set_up(rows: &mut [Row], capacity: u16) -> Verdict { set_up(rows, capacity) }
-#[no_mangle] pub fn arin_attach(rows: &mut [Row], capacity: u16, port: u8, cable: u8) -> Listing { attach(rows, capacity, port, cable) }
-#[no_mangle] pub fn arin_advertise(rows: &mut [Row], capacity: u16, port: u8) -> Listing { advertise(rows, capacity, port) }
-#[no_mangle] pub fn arin_request(rows: &mut [Row], capacity: u16, port: u8, word: u32) -> Verdict { request(rows, capacity, port, word) }
-#[no_mangle] pub fn arin_detach(rows: &mut [Row], capacity: u16, port: u8) -> Verdict { detach(rows, capacity, port) }
-#[no_mangle] pub fn arin_remaining(rows: &[Row], capacity: u16) -> RemainingPower { remaining(rows, capacity) }
-#[panic_handler] fn panic(_: &core::panic::PanicInfo) -> ! { loop {} }
-END
-
-# An archive has the compiler's support code too; the object that is measured is the one that defines the calls.
+# own_object SIDE ARCHIVE CALL: an archive has the compiler's support code too; the object that is measured is the one that defines the calls.
 own_object() {
   mkdir -p "$made/$1"
   cp "$2" "$made/$1/library.a"
   (cd "$made/$1" && ar x library.a)
   local object own
   for object in "$made/$1"/*.o; do
-    if nm --defined-only "$object" 2> /dev/null | grep -q ' T arin_build$'; then
+    if nm --defined-only "$object" 2> /dev/null | grep -q " T $3\$"; then
       own=$object
     fi
   done
@@ -68,10 +32,9 @@ own_object() {
 }
 
 build() {
-  CARGO_PROFILE_RELEASE_OPT_LEVEL=$1 cargo build --release --offline --quiet -p arinduleu-c --target-dir "$targets/size-$1"
-  own_object "library-$1" "$targets/size-$1/release/libarinduleu_c.a"
-  (cd "$made/plain" && CARGO_PROFILE_RELEASE_OPT_LEVEL=$1 cargo build --release --offline --quiet --target-dir "$targets/size-$1")
-  own_object "model-$1" "$targets/size-$1/release/libplain_c.a"
+  CARGO_PROFILE_RELEASE_OPT_LEVEL=$1 cargo build --release --offline --quiet -p arinduleu-c -p model-c --target-dir "$targets/size-$1"
+  own_object "library-$1" "$targets/size-$1/release/libarinduleu_c.a" arin_build
+  own_object "model-$1" "$targets/size-$1/release/libmodel_c.a" model_build
 }
 
 # memcpy and memset are the firmware's own, wherever the compiler calls for them.
@@ -87,7 +50,8 @@ keep() {
 line() {
   local name=$1
   shift
-  echo "| $name | $(keep library-3 "$@") | $(keep model-3 "$@") | $(keep library-s "$@") | $(keep model-s "$@") |"
+  local model=("${@/#arin_/model_}")
+  echo "| $name | $(keep library-3 "$@") | $(keep model-3 "${model[@]}") | $(keep library-s "$@") | $(keep model-s "${model[@]}") |"
 }
 
 build 3

@@ -24,18 +24,21 @@ pub use steps::{convert, round_down, round_up};
 pub use words::{decode, encode, reserved_bit_set};
 
 #[derive(Clone, Copy, Debug, PartialEq, Eq, Default)]
+#[repr(C)]
 pub struct Verdict {
     pub number: u8,
     pub place: u8,
 }
 
 #[derive(Clone, Copy, Debug, PartialEq, Eq, Default)]
+#[repr(C)]
 pub struct Words {
     pub words: [u32; 7],
     pub count: u8,
 }
 
 #[derive(Clone, Copy, Debug, PartialEq, Eq, Default)]
+#[repr(C)]
 pub struct Listing {
     pub verdict: Verdict,
     pub list: Words,
@@ -43,6 +46,7 @@ pub struct Listing {
 
 /// Powers in half watts, cable in amperes, rounding 0 down and 1 up.
 #[derive(Clone, Copy, Debug, PartialEq, Eq, Default)]
+#[repr(C)]
 pub struct Profile {
     pub max: u16,
     pub present: u16,
@@ -53,12 +57,14 @@ pub struct Profile {
 }
 
 #[derive(Clone, Copy, Debug, PartialEq, Eq, Default)]
+#[repr(C)]
 pub struct Profiled {
     pub verdict: Verdict,
     pub profile: Profile,
 }
 
 #[derive(Clone, Copy, Debug, PartialEq, Eq, Default)]
+#[repr(C)]
 pub struct Row {
     pub max: u16,
     pub pps: u8,
@@ -68,6 +74,7 @@ pub struct Row {
 }
 
 #[derive(Clone, Copy, Debug, PartialEq, Eq, Default)]
+#[repr(C)]
 pub struct RemainingPower {
     pub verdict: Verdict,
     pub power: u16,
@@ -97,6 +104,7 @@ pub struct Reading {
 
 /// One struct for all kinds, as C has it. kind: 0 fixed, 1 battery, 2 variable, 3 PPS, 4 AVS.
 #[derive(Clone, Copy, Debug, PartialEq, Eq, Default)]
+#[repr(C)]
 pub struct FlatObject {
     pub kind: u8,
     pub flags: u8,
@@ -115,12 +123,14 @@ pub struct FlatObject {
 }
 
 #[derive(Clone, Copy, Debug, PartialEq, Eq, Default)]
+#[repr(C)]
 pub struct FlatObjects {
     pub places: [FlatObject; 7],
     pub count: u8,
 }
 
 #[derive(Clone, Copy, Debug, PartialEq, Eq, Default)]
+#[repr(C)]
 pub struct FlatReading {
     pub verdict: Verdict,
     pub list: FlatObjects,

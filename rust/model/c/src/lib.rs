@@ -1,0 +1,89 @@
+//! The model's calls under C names, `model_build` for `arin_build` and so on: to measure beside the library what firmware gets. Structs go in by
+//! pointer, as one would write it by hand; they are those of `include/arinduleu.h`.
+#![no_std]
+
+use model::{FlatObjects, FlatReading, Listing, Profile, Profiled, RemainingPower, Row, Verdict, Words};
+
+/// As the library has it: a count of zero is no row, whatever the pointer.
+///
+/// # Safety
+/// For a count above zero, `rows` points to that many rows, which nothing else reads or writes during the call.
+unsafe fn lent<'a>(rows: *mut Row, count: usize) -> &'a mut [Row] {
+    if count == 0 || rows.is_null() {
+        return &mut [];
+    }
+    unsafe { core::slice::from_raw_parts_mut(rows, count) }
+}
+
+#[no_mangle]
+pub extern "C" fn model_default_profile(max: u16) -> Profiled {
+    model::default_profile(max)
+}
+
+#[no_mangle]
+pub extern "C" fn model_build(profile: &Profile) -> Listing {
+    model::build(profile)
+}
+
+#[no_mangle]
+pub extern "C" fn model_check(profile: &Profile, list: &Words) -> Verdict {
+    model::check(profile, list)
+}
+
+#[no_mangle]
+pub extern "C" fn model_shape(list: &Words) -> Verdict {
+    model::shape(list)
+}
+
+#[no_mangle]
+pub extern "C" fn model_read(list: &Words) -> FlatReading {
+    model::flat_read(list)
+}
+
+#[no_mangle]
+pub extern "C" fn model_write(list: &FlatObjects) -> Listing {
+    model::flat_write(list)
+}
+
+#[no_mangle]
+pub extern "C" fn model_answer(list: &Words, word: u32) -> Verdict {
+    model::answer(list, word)
+}
+
+/// # Safety
+/// As `lent` says, here and in the calls below.
+#[no_mangle]
+pub unsafe extern "C" fn model_set_up(rows: *mut Row, count: usize, capacity: u16) -> Verdict {
+    model::set_up(unsafe { lent(rows, count) }, capacity)
+}
+
+#[no_mangle]
+pub unsafe extern "C" fn model_attach(rows: *mut Row, count: usize, capacity: u16, port: u8, cable: u8) -> Listing {
+    model::attach(unsafe { lent(rows, count) }, capacity, port, cable)
+}
+
+#[no_mangle]
+pub unsafe extern "C" fn model_advertise(rows: *mut Row, count: usize, capacity: u16, port: u8) -> Listing {
+    model::advertise(unsafe { lent(rows, count) }, capacity, port)
+}
+
+#[no_mangle]
+pub unsafe extern "C" fn model_request(rows: *mut Row, count: usize, capacity: u16, port: u8, word: u32) -> Verdict {
+    model::request(unsafe { lent(rows, count) }, capacity, port, word)
+}
+
+#[no_mangle]
+pub unsafe extern "C" fn model_detach(rows: *mut Row, count: usize, capacity: u16, port: u8) -> Verdict {
+    model::detach(unsafe { lent(rows, count) }, capacity, port)
+}
+
+#[no_mangle]
+pub unsafe extern "C" fn model_remaining(rows: *mut Row, count: usize, capacity: u16) -> RemainingPower {
+    model::remaining(unsafe { lent(rows, count) }, capacity)
+}
+
+#[cfg(not(test))]
+#[panic_handler]
+fn panic(_: &core::panic::PanicInfo) -> ! {
+    loop {}
+}
