@@ -1,8 +1,12 @@
 //! Each public call of the library against the plain model's, in time and in instructions.
 //!
 //! `cargo bench --offline` prints the table of times; a word behind `--` selects calls by name. `--list` and `--count` are for
-//! `tools/instructions.sh`.
+//! `tools/instructions.sh`, `--bytes` for the tools for boards.
 
+#[path = "calls/bytes.rs"]
+mod bytes;
+#[path = "calls/hardest.rs"]
+mod hardest;
 #[path = "calls/inputs.rs"]
 mod inputs;
 #[path = "calls/lists.rs"]
@@ -34,13 +38,16 @@ fn main() {
         [] => table(&rows, ""),
         ["--list"] => rows.iter().for_each(|row| println!("{}", row.name)),
         ["--count", name, side, passes] => count(&rows, name, side, passes),
+        ["--bytes", inputs, answers] => write_bytes(inputs, answers),
         [word] if !word.starts_with('-') => table(&rows, word),
         _ => usage(),
     }
 }
 
 fn usage() -> ! {
-    eprintln!("usage: calls [WORD] | --list | --count NAME library|model PASSES");
+    eprintln!(
+        "usage: calls [WORD] | --list | --count NAME library|model PASSES | --bytes INPUTS ANSWERS"
+    );
     exit(2)
 }
 
@@ -100,4 +107,14 @@ fn count(rows: &[Row], name: &str, side: &str, passes: &str) {
         run();
     }
     println!("{}", call.inputs * passes);
+}
+
+fn write_bytes(inputs: &str, answers: &str) {
+    let all = bytes::of_all_calls();
+    for (file, bytes) in [(inputs, all.inputs), (answers, all.answers)] {
+        if let Err(error) = std::fs::write(file, bytes) {
+            eprintln!("calls: {file}: {error}");
+            exit(1);
+        }
+    }
 }

@@ -7,7 +7,7 @@ use crate::wrappers::library::{self, advertise, attach, detach, set_up};
 use arinduleu::ports::Row;
 use arinduleu::steps::HalfWatts;
 
-const NO_ROW: Row = Row {
+pub const NO_ROW: Row = Row {
     max: HalfWatts(0),
     pps: 0,
     cable: 0,

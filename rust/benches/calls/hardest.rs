@@ -1,0 +1,115 @@
+//! Inputs that ask for the most work: every full port with its own list, and eight rows that are all in use. They stand beside the seeded ones where the most
+//! that a call takes is looked for.
+
+use crate::inputs::Turn;
+use crate::tables::NO_ROW;
+use crate::wrappers::library::{attach, build, decode, detach, flat_read, request, set_up};
+use arinduleu::flat::FlatObjects;
+use arinduleu::lists::Words;
+use arinduleu::objects::{Decoded, Object};
+use arinduleu::ports::Row;
+use arinduleu::rules::Profile;
+use arinduleu::steps::HalfWatts;
+
+/// P = M for every M, with each cable, rounding and wish for PPS.
+pub fn profiles() -> Vec<Profile> {
+    let mut all = Vec::new();
+    for max in 1..=200 {
+        for (cable, rounding, pps) in [3, 5]
+            .into_iter()
+            .flat_map(|c| (0..4).map(move |n| (c, n % 2, n / 2)))
+        {
+            all.push(Profile {
+                max: HalfWatts(max),
+                present: HalfWatts(max),
+                cable,
+                rounding,
+                pps,
+                flags: 63,
+            });
+        }
+    }
+    all
+}
+
+pub fn lists() -> Vec<Words> {
+    profiles().into_iter().map(|p| build(p).list).collect()
+}
+
+pub fn checks() -> Vec<(Profile, Words)> {
+    profiles().into_iter().zip(lists()).collect()
+}
+
+pub fn flat_lists() -> Vec<FlatObjects> {
+    lists().into_iter().map(|l| flat_read(l).list).collect()
+}
+
+/// All that an object has, at its highest voltage; of AVS at 15.0 V, which belongs to both ranges.
+fn most_of(list: Words, at: u8) -> u32 {
+    let figures = |operating: u16, volts: u16, current: u16| {
+        u32::from(operating) << 10 | u32::from(volts) << 9 | u32::from(current)
+    };
+    let asked = match decode(list.words[usize::from(at)]) {
+        Decoded::Known(Object::Fixed { current, .. }) => figures(current.0, 0, current.0),
+        Decoded::Known(Object::Pps { max, current, .. }) => figures(0, 5 * max.0, current.0),
+        Decoded::Known(Object::Avs { low, .. }) => figures(0, 600, low.0 / 5),
+        _ => unreachable!("no list that is built has another kind"),
+    };
+    u32::from(at + 1) << 28 | asked
+}
+
+/// A request for each place of each list.
+fn requests(list: Words) -> impl Iterator<Item = (Words, u32)> {
+    (0..list.count).map(move |at| (list, most_of(list, at)))
+}
+
+pub fn answers() -> Vec<(Words, u32)> {
+    lists().into_iter().flat_map(requests).collect()
+}
+
+/// Eight ports of every maximum that all have a cable and hold what the last of their list gives. The last port is asked for each place of its
+/// list.
+pub fn with_all_ports_in_use() -> Vec<Turn> {
+    let mut turns = Vec::new();
+    for max in 15..=200 {
+        let row = Row {
+            max: HalfWatts(max),
+            pps: 1,
+            ..NO_ROW
+        };
+        let mut rows = [NO_ROW; 9];
+        rows[..8].fill(row);
+        set_up(&mut rows[..8], 1600);
+        for port in 1..=8 {
+            let list = attach(&mut rows[..8], 1600, port, 5).list;
+            request(&mut rows[..8], 1600, port, most_of(list, list.count - 1));
+        }
+        let list = build(Profile {
+            max: row.max,
+            present: row.max,
+            cable: 5,
+            rounding: 0,
+            pps: 1,
+            flags: 0,
+        })
+        .list;
+        turns.extend(requests(list).map(|(_, word)| Turn {
+            rows,
+            count: 8,
+            capacity: 1600,
+            port: 8,
+            cable: 5,
+            word,
+        }));
+    }
+    turns
+}
+
+/// The same with the last port empty, so that a cable can come to it.
+pub fn with_seven_ports_in_use() -> Vec<Turn> {
+    let mut turns = with_all_ports_in_use();
+    for turn in &mut turns {
+        detach(&mut turn.rows[..8], turn.capacity, turn.port);
+    }
+    turns
+}
