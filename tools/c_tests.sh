@@ -32,20 +32,9 @@ END
     ;;
 esac
 
-warnings=(-Wall -Wextra -Wpedantic -Werror)
-sources=(examples/two_ports.c tests/c/calls.c tests/c/layout.c)
 cargo_library=release/libarinduleu_c.a
 . tools/passing.sh
-
-# The cargo library loops for ever where it panics, so a program has a limit where the machine has `timeout`.
-limited() {
-  if have timeout; then timeout 60 "$@"; else "$@"; fi
-}
-
-# The program of a source, in the folder of what is made.
-program() {
-  echo "$made/$(basename "$1" .c)"
-}
+. tools/c_programs.sh
 
 # Those of the named compilers that are here. One that is here under two names, as cc often is, comes once.
 compilers() {
@@ -146,42 +135,6 @@ unused_text() {
     done
     pass "a program that asks for no sentence carries none, by $compiler"
   done
-}
-
-# run_example WHERE RUNNER..., and the two below likewise: runs a program that was built, and compares. The runner is the words that
-# stand before the program, or none.
-run_example() {
-  local where=$1
-  shift
-  limited "$@" "$made/two_ports" > "$made/out" || fail "the example ended badly, $where"
-  diff examples/two_ports.out "$made/out" >&2 || fail "the example does not print examples/two_ports.out, $where"
-  pass "the example prints what it should, $where"
-}
-
-run_calls() {
-  local where=$1 count
-  shift
-  limited "$@" "$made/calls" > "$made/out" || {
-    cat "$made/out" >&2
-    fail "a call does not answer as it should, $where"
-  }
-  count=$(sed -n 's/^calls: \([0-9]*\) passed, 0 failed$/\1/p' "$made/out")
-  [ -n "$count" ] || fail "calls ended without its count, $where"
-  pass "each call answers as it should ($count checks), $where"
-}
-
-run_layout() {
-  local where=$1
-  shift
-  limited "$@" "$made/layout" > "$made/out" || fail "layout ended badly, $where"
-  diff tests/c/layout.txt "$made/out" >&2 || fail "the structs are not as tests/c/layout.txt has them, $where"
-  pass "the structs are as tests/c/layout.txt has them, $where"
-}
-
-run_all() {
-  run_example "$@"
-  run_calls "$@"
-  run_layout "$@"
 }
 
 # cargo_build TARGET: $cargo_library in that folder.

@@ -1,10 +1,13 @@
-/* One line for each struct of arinduleu.h: its name, its size, its alignment, then each field with its offset. */
+/*
+ * One line for each struct of arinduleu.h: its name, its size, its alignment, then each field with its offset. As unsigned, since not every C
+ * library for boards prints a size_t.
+ */
 #include <stdio.h>
 
 #include "arinduleu.h"
 
-#define STRUCT(name) printf("%s %zu %zu", #name, sizeof(struct name), _Alignof(struct name))
-#define FIELD(name, field) printf(" %s %zu", #field, offsetof(struct name, field))
+#define STRUCT(name) printf("%s %u %u", #name, (unsigned)sizeof(struct name), (unsigned)_Alignof(struct name))
+#define FIELD(name, field) printf(" %s %u", #field, (unsigned)offsetof(struct name, field))
 #define END() printf("\n")
 
 int main(void)
