@@ -19,8 +19,11 @@ Builds the static library and installs, under DIR:
                     it is made where it is not there, and may be moved later
   --library cargo   the library that cargo makes from rust/c (the default)
   --library kit     the archive of `rt staticlib board`, for x86-64 Linux
-  --target TRIPLE   what cargo builds for, for instance thumbv7em-none-eabihf;
-                    without it, this machine
+  --target TRIPLE   what cargo builds for, for instance thumbv6m-none-eabi;
+                    without it, this machine. A rustc that lacks the target and
+                    has the sources of its core (rust-src) makes it from these
+
+CARGO_PROFILE_RELEASE_OPT_LEVEL=s before the command makes a smaller library.
 
 With DESTDIR set, all of it goes under $DESTDIR$DIR, as for a package. Where DIR
 has a space in it the shell takes what pkg-config says apart: use CMake there.
@@ -89,6 +92,7 @@ case "${DESTDIR:-}" in
 esac
 
 cd "$root"
+. tools/rust_target.sh
 version=$(sed -n 's/^version = "\([0-9.]*\)"$/\1/p' rust/Cargo.toml | head -n 1)
 [ -n "$version" ] || { echo "$who: rust/Cargo.toml has no version" >&2; exit 1; }
 
@@ -96,13 +100,18 @@ version=$(sed -n 's/^version = "\([0-9.]*\)"$/\1/p' rust/Cargo.toml | head -n 1)
 build_cargo() {
   local words=(build --release --offline --quiet --manifest-path rust/Cargo.toml --target-dir rust/target -p arinduleu-c)
   need cargo "--library cargo"
+  rust_words=()
   archive=rust/target/release/libarinduleu_c.a
   if [ -n "$target" ]; then
+    rust_for "$target" || {
+      echo "$who: $why_not (with rustup: rustup target add $target)" >&2
+      exit 1
+    }
     words+=(--target "$target")
     archive=rust/target/$target/release/libarinduleu_c.a
   fi
-  cargo "${words[@]}" || {
-    echo "$who: cargo did not build the library${target:+; if \`rustup target list --installed\` lacks $target, add it first}" >&2
+  "${rust_words[@]}" cargo "${words[@]}" || {
+    echo "$who: cargo did not build the library" >&2
     exit 1
   }
 }
