@@ -59,7 +59,7 @@ ends() {
 listing="0 6 0001912C 0002D12C 0004B0F0 E003C000 C8DC323C C9403230"
 printf '\x48\x00\x48\x00\x03\x00\x01\x00' > "$made/record"
 
-for word in example caps console test "caps --help" "console --help" --help; do
+for word in example caps console board test "caps --help" "console --help" "board --help" --help; do
   # shellcheck disable=SC2086 # a word may be two
   arin $word left-over
   ends "a word left over behind $word" 2 - "[a-z]*: .*left-over.* (.*--help tells)"
@@ -72,6 +72,8 @@ arin --help
 ends "help" 0 ".*A peak low high" -
 arin caps --help
 ends "the help of caps" 0 "prints the listing of a 36 W port .*" -
+arin board --help
+ends "the help of the tests on a board" 0 "Where one of them is missing .*" -
 arin console --help
 cmp "$made/out" docs/CONSOLE.md || fail "./arin console --help is not docs/CONSOLE.md"
 ends "the help of the console" 0 ".*" -

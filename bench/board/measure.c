@@ -1,0 +1,470 @@
+/*
+ * What each call costs on a Cortex-M0: instructions, stack and software divisions. tools/board_figures.sh builds it with the library and, with
+ * MODEL, with the plain model; and each of these once more with DIVISIONS, to count these, since counting costs instructions itself.
+ *
+ * The file `inputs` has for each call two groups, each behind its number: the seeded inputs of the benchmark, whose mean is told, and the
+ * hardest, among which and the seeded ones the most is looked for. The file `answers` gets every answer and the rows that it leaves, which
+ * tools/board_tests.sh holds to this machine's. In both all goes field by field, low byte first. rust/benches/calls/bytes.rs has the other side.
+ *
+ * A cost is that of a whole call as a caller has it: the arguments are handed over from where they lie, and the answer is laid down.
+ */
+#include <stdint.h>
+#include <stdio.h>
+#include <stdlib.h>
+
+#include "arinduleu.h"
+
+/* The model takes structs by pointer, as one would by hand. */
+#ifdef MODEL
+#define CALL(name) model_##name
+#define GIVE(value) (&(value))
+struct arin_profiled model_default_profile(uint16_t max);
+struct arin_listing model_build(const struct arin_profile *profile);
+struct arin_verdict model_check(const struct arin_profile *profile, const struct arin_words *list);
+struct arin_verdict model_shape(const struct arin_words *list);
+struct arin_flat_reading model_read(const struct arin_words *list);
+struct arin_listing model_write(const struct arin_flat_objects *list);
+struct arin_verdict model_answer(const struct arin_words *list, uint32_t word);
+struct arin_verdict model_set_up(struct arin_row *rows, size_t count, uint16_t capacity);
+struct arin_listing model_attach(struct arin_row *rows, size_t count, uint16_t capacity, uint8_t port, uint8_t cable);
+struct arin_listing model_advertise(struct arin_row *rows, size_t count, uint16_t capacity, uint8_t port);
+struct arin_verdict model_request(struct arin_row *rows, size_t count, uint16_t capacity, uint8_t port, uint32_t word);
+struct arin_verdict model_detach(struct arin_row *rows, size_t count, uint16_t capacity, uint8_t port);
+struct arin_remaining_power model_remaining(const struct arin_row *rows, size_t count, uint16_t capacity);
+#else
+#define CALL(name) arin_##name
+#define GIVE(value) (value)
+#endif
+
+/* ---- Divisions: the linker leads them through here ---- */
+
+static uint32_t divisions;
+
+#ifdef DIVISIONS
+uint32_t __real___aeabi_uidiv(uint32_t numerator, uint32_t divisor);
+uint64_t __real___aeabi_uidivmod(uint32_t numerator, uint32_t divisor);
+
+uint32_t __wrap___aeabi_uidiv(uint32_t numerator, uint32_t divisor)
+{
+    divisions++;
+    return __real___aeabi_uidiv(numerator, divisor);
+}
+
+/* Quotient and remainder come in two registers, as the two halves of a 64-bit figure. */
+uint64_t __wrap___aeabi_uidivmod(uint32_t numerator, uint32_t divisor)
+{
+    divisions++;
+    return __real___aeabi_uidivmod(numerator, divisor);
+}
+#endif
+
+/* ---- Inputs and answers ---- */
+
+static FILE *inputs, *answers;
+
+static uint32_t take(int bytes)
+{
+    uint32_t figure = 0;
+
+    for (int i = 0; i < bytes; i++) {
+        int c = fgetc(inputs);
+
+        if (c == EOF) {
+            printf("measure: the inputs end too soon\n");
+            exit(1);
+        }
+        figure |= (uint32_t)c << (8 * i);
+    }
+    return figure;
+}
+
+static void give(uint32_t figure, int bytes)
+{
+    for (int i = 0; i < bytes; i++)
+        fputc((int)(figure >> (8 * i) & 0xFF), answers);
+}
+
+static uint16_t max;
+static struct arin_profile profile;
+static struct arin_words list;
+static _Alignas(4) struct arin_flat_objects objects;
+static struct arin_row rows[ARIN_MOST_ROWS + 1];
+static uint8_t count, port, cable;
+static uint16_t capacity;
+static uint32_t word;
+
+static struct arin_verdict verdict;
+static struct arin_profiled profiled;
+static struct arin_listing listing;
+static struct arin_flat_reading reading;
+static struct arin_remaining_power remaining;
+
+static void take_max(void)
+{
+    max = (uint16_t)take(2);
+}
+
+static void take_profile(void)
+{
+    profile.max = (uint16_t)take(2);
+    profile.present = (uint16_t)take(2);
+    profile.cable = (uint8_t)take(1);
+    profile.rounding = (uint8_t)take(1);
+    profile.pps = (uint8_t)take(1);
+    profile.flags = (uint8_t)take(1);
+}
+
+static void take_list(void)
+{
+    for (int i = 0; i < ARIN_LIST_PLACES; i++)
+        list.words[i] = take(4);
+    list.count = (uint8_t)take(1);
+}
+
+static void take_profile_and_list(void)
+{
+    take_profile();
+    take_list();
+}
+
+static void take_list_and_word(void)
+{
+    take_list();
+    word = take(4);
+}
+
+static void take_objects(void)
+{
+    for (int i = 0; i < ARIN_LIST_PLACES; i++) {
+        struct arin_flat_object *o = &objects.places[i];
+
+        o->kind = (uint8_t)take(1);
+        o->flags = (uint8_t)take(1);
+        o->peak = (uint8_t)take(1);
+        o->limited = (uint8_t)take(1);
+        o->volts = (uint16_t)take(2);
+        o->max = (uint16_t)take(2);
+        o->min = (uint16_t)take(2);
+        o->power = (uint16_t)take(2);
+        o->current = (uint16_t)take(2);
+        o->max100 = (uint16_t)take(2);
+        o->min100 = (uint16_t)take(2);
+        o->current50 = (uint16_t)take(2);
+        o->low = (uint16_t)take(2);
+        o->high = (uint16_t)take(2);
+    }
+    objects.count = (uint8_t)take(1);
+}
+
+static void take_turn(void)
+{
+    for (int i = 0; i <= ARIN_MOST_ROWS; i++) {
+        rows[i].max = (uint16_t)take(2);
+        rows[i].pps = (uint8_t)take(1);
+        rows[i].cable = (uint8_t)take(1);
+        rows[i].present = (uint16_t)take(2);
+        rows[i].held = (uint16_t)take(2);
+    }
+    count = (uint8_t)take(1);
+    capacity = (uint16_t)take(2);
+    port = (uint8_t)take(1);
+    cable = (uint8_t)take(1);
+    word = take(4);
+}
+
+static void give_verdict_of(struct arin_verdict v)
+{
+    give(v.number, 1);
+    give(v.place, 1);
+}
+
+static void give_verdict(void)
+{
+    give_verdict_of(verdict);
+}
+
+static void give_profiled(void)
+{
+    give_verdict_of(profiled.verdict);
+    give(profiled.profile.max, 2);
+    give(profiled.profile.present, 2);
+    give(profiled.profile.cable, 1);
+    give(profiled.profile.rounding, 1);
+    give(profiled.profile.pps, 1);
+    give(profiled.profile.flags, 1);
+}
+
+static void give_listing(void)
+{
+    give_verdict_of(listing.verdict);
+    for (int i = 0; i < ARIN_LIST_PLACES; i++)
+        give(listing.list.words[i], 4);
+    give(listing.list.count, 1);
+}
+
+static void give_reading(void)
+{
+    give_verdict_of(reading.verdict);
+    for (int i = 0; i < ARIN_LIST_PLACES; i++) {
+        struct arin_flat_object o = reading.list.places[i];
+
+        give(o.kind, 1);
+        give(o.flags, 1);
+        give(o.peak, 1);
+        give(o.limited, 1);
+        give(o.volts, 2);
+        give(o.max, 2);
+        give(o.min, 2);
+        give(o.power, 2);
+        give(o.current, 2);
+        give(o.max100, 2);
+        give(o.min100, 2);
+        give(o.current50, 2);
+        give(o.low, 2);
+        give(o.high, 2);
+    }
+    give(reading.list.count, 1);
+}
+
+static void give_rows(void)
+{
+    for (int i = 0; i <= ARIN_MOST_ROWS; i++) {
+        give(rows[i].max, 2);
+        give(rows[i].pps, 1);
+        give(rows[i].cable, 1);
+        give(rows[i].present, 2);
+        give(rows[i].held, 2);
+    }
+}
+
+static void give_verdict_and_rows(void)
+{
+    give_verdict();
+    give_rows();
+}
+
+static void give_listing_and_rows(void)
+{
+    give_listing();
+    give_rows();
+}
+
+static void give_remaining_and_rows(void)
+{
+    give_verdict_of(remaining.verdict);
+    give(remaining.power, 2);
+    give_rows();
+}
+
+/* ---- The calls, in the order in which the benchmark numbers them ---- */
+
+/*
+ * The timer that every Cortex-M has, 24 bits, counting down. The emulator is told that an instruction takes 1024 ns and the timer runs at
+ * 16 MHz, so 16.384 ticks are one instruction.
+ */
+static volatile uint32_t *const timer_control = (uint32_t *)0xE000E010;
+static volatile uint32_t *const timer_reload = (uint32_t *)0xE000E014;
+static volatile uint32_t *const timer = (uint32_t *)0xE000E018;
+static uint32_t stopped;
+
+/*
+ * The answer is laid down in a variable of the caller's own, as firmware has it. The clock stops before it is kept: that is no part of the
+ * call.
+ */
+#define ASK(kept, call)                                 \
+    do {                                                \
+        __typeof__(kept) answer = call;                 \
+        __asm__ volatile("" : : "r"(&answer) : "memory"); \
+        stopped = *timer;                               \
+        kept = answer;                                  \
+    } while (0)
+
+static void no_call(void)
+{
+    stopped = *timer;
+}
+
+static void call_default_profile(void)
+{
+    ASK(profiled, CALL(default_profile)(max));
+}
+
+static void call_build(void)
+{
+    ASK(listing, CALL(build)(GIVE(profile)));
+}
+
+static void call_check(void)
+{
+    ASK(verdict, CALL(check)(GIVE(profile), GIVE(list)));
+}
+
+static void call_shape(void)
+{
+    ASK(verdict, CALL(shape)(GIVE(list)));
+}
+
+static void call_read(void)
+{
+    ASK(reading, CALL(read)(GIVE(list)));
+}
+
+static void call_write(void)
+{
+    ASK(listing, CALL(write)(GIVE(objects)));
+}
+
+static void call_answer(void)
+{
+    ASK(verdict, CALL(answer)(GIVE(list), word));
+}
+
+static void call_set_up(void)
+{
+    ASK(verdict, CALL(set_up)(rows, count, capacity));
+}
+
+static void call_attach(void)
+{
+    ASK(listing, CALL(attach)(rows, count, capacity, port, cable));
+}
+
+static void call_advertise(void)
+{
+    ASK(listing, CALL(advertise)(rows, count, capacity, port));
+}
+
+static void call_request(void)
+{
+    ASK(verdict, CALL(request)(rows, count, capacity, port, word));
+}
+
+static void call_detach(void)
+{
+    ASK(verdict, CALL(detach)(rows, count, capacity, port));
+}
+
+static void call_remaining(void)
+{
+    ASK(remaining, CALL(remaining)(rows, count, capacity));
+}
+
+static const struct {
+    const char *name;
+    void (*take)(void);
+    void (*call)(void);
+    void (*give)(void);
+} calls[] = {
+    { "arin_default_profile", take_max, call_default_profile, give_profiled },
+    { "arin_build", take_profile, call_build, give_listing },
+    { "arin_check", take_profile_and_list, call_check, give_verdict },
+    { "arin_shape", take_list, call_shape, give_verdict },
+    { "arin_read", take_list, call_read, give_reading },
+    { "arin_write", take_objects, call_write, give_listing },
+    { "arin_answer", take_list_and_word, call_answer, give_verdict },
+    { "arin_set_up", take_turn, call_set_up, give_verdict_and_rows },
+    { "arin_attach", take_turn, call_attach, give_listing_and_rows },
+    { "arin_advertise", take_turn, call_advertise, give_listing_and_rows },
+    { "arin_request", take_turn, call_request, give_verdict_and_rows },
+    { "arin_detach", take_turn, call_detach, give_verdict_and_rows },
+    { "arin_remaining", take_turn, call_remaining, give_remaining_and_rows },
+};
+
+enum { CALLS = sizeof calls / sizeof calls[0] };
+
+/* ---- Measuring ---- */
+
+struct cost {
+    uint32_t instructions, stack;
+};
+
+/* The words below the stack pointer are painted, and what of the paint is gone was used. */
+static __attribute__((noinline)) struct cost measure(void (*call)(void))
+{
+    enum { PAINTED = 1000, PAINT = 0x5AA55AA5 };
+    volatile uint32_t *top;
+    uint32_t started, unused;
+    struct cost cost;
+
+    __asm__ volatile("mov %0, sp" : "=r"(top));
+    for (int i = 1; i <= PAINTED; i++)
+        top[-i] = PAINT;
+    started = *timer;
+    call();
+    for (unused = PAINTED; unused > 0 && top[-(int)unused] == PAINT; unused--)
+        ;
+    cost.instructions = (((started - stopped) & 0xFFFFFF) * 1000 + 8192) / 16384;
+    cost.stack = 4 * unused;
+    return cost;
+}
+
+static FILE *opened(const char *name, const char *mode)
+{
+    FILE *file = fopen(name, mode);
+
+    if (file == NULL) {
+        printf("measure: the file %s cannot be opened\n", name);
+        exit(1);
+    }
+    return file;
+}
+
+static void print_figures(const uint32_t figures[7])
+{
+    for (int i = 0; i < 7; i++)
+        printf(" %lu", (unsigned long)figures[i]);
+    printf("\n");
+}
+
+/*
+ * Prints how many calls were made, how many of them on seeded inputs, and the instructions and divisions of these together; then the most
+ * instructions, bytes of stack and divisions of one call.
+ */
+static void measure_call(int n, uint32_t itself)
+{
+    uint32_t made = 0, seeded = 0, instructions = 0, all_divisions = 0;
+    uint32_t most_instructions = 0, most_stack = 0, most_divisions = 0;
+
+    for (int group = 0; group < 2; group++) {
+        uint32_t count = take(2);
+
+        for (uint32_t i = 0; i < count; i++) {
+            struct cost cost;
+
+            calls[n].take();
+            divisions = 0;
+            cost = measure(calls[n].call);
+            cost.instructions -= itself;
+            calls[n].give();
+            made++;
+            if (cost.instructions > most_instructions)
+                most_instructions = cost.instructions;
+            if (cost.stack > most_stack)
+                most_stack = cost.stack;
+            if (divisions > most_divisions)
+                most_divisions = divisions;
+            if (group == 0) {
+                seeded++;
+                instructions += cost.instructions;
+                all_divisions += divisions;
+            }
+        }
+    }
+    printf("%s", calls[n].name);
+    print_figures((uint32_t[]){ made, seeded, instructions, all_divisions, most_instructions, most_stack, most_divisions });
+}
+
+int main(void)
+{
+    uint32_t itself;
+
+    *timer_reload = 0xFFFFFF;
+    *timer = 0;
+    *timer_control = 5;
+    inputs = opened("inputs", "rb");
+    answers = opened("answers", "wb");
+    itself = measure(no_call).instructions;
+    for (int n = 0; n < CALLS; n++)
+        measure_call(n, itself);
+    return fclose(answers) == 0 ? 0 : 1;
+}

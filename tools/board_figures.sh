@@ -1,0 +1,96 @@
+#!/usr/bin/env bash
+# The tables of docs/PERFORMANCE.md, "On a board": what each call takes on an emulated Cortex-M0, of flash, stack, instructions and software
+# divisions, and beside it the plain model, compiled the same way.
+set -euo pipefail
+cd "$(dirname "$0")/.."
+who=board_figures
+. tools/skipping.sh
+
+level=${1:-s}
+case "$level" in
+  s | z | 1 | 2 | 3) ;;
+  -h | --help)
+    cat << 'END'
+usage: tools/board_figures.sh [OPT-LEVEL]
+
+Builds the library and the plain model of rust/model for thumbv6m-none-eabi, at
+opt-level s or at the one given (s, z, 1, 2, 3), and prints for each call
+  - flash: what the linker keeps when that call alone is wanted, with its
+    constants, division, memcpy and memset;
+  - stack: the most bytes below the caller's, by painting the RAM;
+  - instructions, by the emulator's counter: the mean over the benchmark's 2000
+    seeded inputs, and the most over these and the hardest (every full port with
+    its own list, eight ports that are all in use);
+  - divisions: calls of __aeabi_uidiv and __aeabi_uidivmod, counted by wrapping
+    them at link time; the instructions in them are in the figures above.
+Every answer is held to this machine's. It needs what tools/board_tests.sh needs.
+END
+    exit 0
+    ;;
+  *)
+    echo "$who: unknown word '$level' (tools/board_figures.sh --help tells)" >&2
+    exit 2
+    ;;
+esac
+
+. tools/passing.sh
+. tools/c_programs.sh
+. tools/board.sh
+
+board_lacks
+if [ -n "$why" ]; then
+  echo "$who: skipped, this machine lacks something: $why"
+  exit 0
+fi
+
+# The emulator counts an instruction as 1024 ns, and its clock stands where the program sleeps.
+counted=(-icount shift=10,sleep=off)
+built=rust/target/board/$target/release
+
+# side NAME LIBRARY OPTION...: NAME.figures gets the lines of measure.c, with the divisions of a second run in their columns.
+side() {
+  local name=$1 library=$2
+  shift 2
+  build_for_board bench/board/measure.c "$made/measure" "$library" "$@"
+  answers_as_here "$name" "${counted[@]}"
+  mv "$made/out" "$made/plain"
+  build_for_board bench/board/measure.c "$made/measure" "$library" "$@" -DDIVISIONS -Wl,--wrap=__aeabi_uidiv,--wrap=__aeabi_uidivmod
+  answers_as_here "$name" "${counted[@]}"
+  paste -d ' ' "$made/plain" "$made/out" | awk '{ print $1, $4 / $3, $6, $7, $13 / $11, $16 }' > "$made/$name.figures"
+}
+
+# flash LIBRARY CALL...: bytes of code and constants.
+flash() {
+  local library=$1
+  shift
+  "${compiler[@]}" "${linking[@]}" --specs=nano.specs "-Wl,-e,$1" "${@/#/-Wl,-u,}" "$library" -o "$made/kept"
+  arm-none-eabi-size "$made/kept" | awk 'NR == 2 { print $1 + $2 }'
+}
+
+rust_for "$target" || fail "$why_not"
+CARGO_PROFILE_RELEASE_OPT_LEVEL=$level quietly "the library and the model do not build for $target" \
+  "${rust_words[@]}" cargo build --release --offline --manifest-path rust/Cargo.toml --target-dir rust/target/board --target "$target" -p arinduleu-c -p model-c
+board_inputs
+side library "$built/libarinduleu_c.a"
+side model "$built/libmodel_c.a" -DMODEL
+calls=$(cut -d ' ' -f 1 "$made/library.figures")
+
+echo "opt-level $level, rustc $its_version, gcc $(arm-none-eabi-gcc -dumpversion), $(qemu-system-arm --version | sed -n '1s/.*version \([0-9.]*\).*/qemu \1/p')"
+echo
+echo "| call | flash alone, library | model | stack, library | model |"
+echo "|---|--:|--:|--:|--:|"
+while read -r call _ _ stack _ _ model_stack; do
+  echo "| $call | $(flash "$built/libarinduleu_c.a" "$call") | $(flash "$built/libmodel_c.a" "model_${call#arin_}") | $stack | $model_stack |"
+done < <(paste -d ' ' "$made/library.figures" <(cut -d ' ' -f 4 "$made/model.figures"))
+# shellcheck disable=SC2086 # the calls are several words
+echo "| all thirteen | $(flash "$built/libarinduleu_c.a" $calls) | $(flash "$built/libmodel_c.a" ${calls//arin_/model_}) | | |"
+echo
+echo "| call | instructions, library | model | library / model | the most, library | model | library / model | divisions, library | model | the most, library | model |"
+echo "|---|--:|--:|--:|--:|--:|--:|--:|--:|--:|--:|"
+paste -d ' ' "$made/library.figures" "$made/model.figures" | awk '
+  {
+    mean = $2 / $8; most = $3 / $9
+    printf "| %s | %.0f | %.0f | %.2f | %d | %d | %.2f | %.1f | %.1f | %d | %d |\n", $1, $2, $8, mean, $3, $9, most, $5, $11, $6, $12
+    if (mean <= 1.2 && most <= 1.2) within++
+  }
+  END { printf "\n%d of %d calls are within 1.20 of the model, in the mean and at the most.\n", within, NR }'
