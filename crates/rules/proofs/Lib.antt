@@ -26,6 +26,7 @@ pub mod SetLaw
 pub mod Checks
 pub mod WalkDecides
 pub mod Built
+pub mod OwnPlaces
 pub mod BuiltCurrents
 pub mod BuiltPasses
 pub mod Unread

@@ -8,10 +8,15 @@ use native.Mathlib.Omega.{arith}
 use lib.Dec.{ltb, eqb}
 use lib.ListN.{getD, length, set, replicate}
 use borrow.Author.Tests.{ltb-true, ltb-false}
+use Rattle.steps.specs.declared.Ma10.{Ma10}
+use Rattle.objects.specs.declared.Object.the-variants as object
+use Rattle.objects.specs.Encode.{encodeOf}
 use Rattle.lists.specs.Seven.{sevenTo}
+use Rattle.lists.specs.Writing.{wordIn}
 use Rattle.lists.proofs.Sevens.{none-filled, one-filled}
 use Rattle.rules.specs.declared.Profile.{Profile}
 use Rattle.rules.specs.Tables.{Slot, Nothing, Fixed, Avs, Prog, row, rails, holds, baseSlots, slots}
+use Rattle.rules.specs.Currents.{builtCurrent}
 use Rattle.rules.specs.Building.{objectFor, slotWord, wordFor, PutIf, PutDown}
 use Rattle.rules.proofs.EachMaximum.{at-most-seven}
 use Rattle.rules.proofs.TableWalk.{Stands, railsTo, rail-stands, rail-on, rail-skipped, afterRails, avs-stands, avs-on, avs-skipped, supply, supplies, suppliesTo, supply-stands, supply-on, supply-skipped}
@@ -41,6 +46,12 @@ avs-anywhere p first past15V = refl
 pub prog-anywhere : (p : Profile) (first : Bool) (volts top : ℕ) → slotWord p false (Prog volts top) ≡ slotWord p first (Prog volts top)
 unfolding objectFor
 prog-anywhere p first volts top = refl
+
+-- the AVS word, by its currents
+pub avs-is : (p : Profile) (first past15V : Bool) (low high : Ma10) → low .0 ≡ builtCurrent p 15 → high .0 ≡ cond past15V (builtCurrent p 20) 0
+    → wordIn (encodeOf (object.Avs 0 low high)) ≡ slotWord p first (Avs past15V)
+unfolding objectFor
+avs-is p first past15V low high e f = ap₂ (λ (l h : ℕ). wordIn (encodeOf (object.Avs 0 (record { 0 = l }) (record { 0 = h })))) e f
 
 -- ---- a word that goes to its place, or does not
 

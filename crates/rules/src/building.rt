@@ -4,8 +4,12 @@ ghost use mathlib.Core.Bool.{cond, true, false};
 ghost use Prim.Native.Nat.{_+_, _≤_, _<_};
 ghost use lib.Dec.{ltb, eqb};
 ghost use lib.ListN.{length, set, replicate};
+ghost use Rattle.verdicts.specs.Refusals.{NoneApply};
+ghost use Rattle.objects.specs.declared.Object.the-variants as object;
+ghost use Rattle.objects.specs.Bits.{bits};
+ghost use Rattle.objects.specs.Encode.{encodeOf};
 ghost use Rattle.lists.specs.Writing.{wordIn};
-ghost use Rattle.rules.specs.Profiles.{Within, ppsBelowMaximum};
+ghost use Rattle.rules.specs.Profiles.{profileRefusals, Within, ppsBelowMaximum};
 ghost use Rattle.rules.specs.Tables.{Fixed, Avs, Prog, rails, fixedSlots, baseSlots, exceeds, holds};
 ghost use Rattle.rules.specs.Currents.{builtCurrent};
 ghost use Rattle.rules.specs.Building.{flagsAt, slotWord, builtCount, PutIf, PutDown};
@@ -19,6 +23,8 @@ use crate::tables::AVS_ABOVE;
 use crate::tables::AVS_PAST_15_V_ABOVE;
 use crate::tables::BOTTOM;
 use crate::tables::RAILS;
+use crate::tables::ROW_15_V;
+use crate::tables::ROW_20_V;
 use crate::tables::Rail;
 use crate::tables::SUPPLIES;
 use crate::tables::Supply;
@@ -68,14 +74,21 @@ fn second_current(p: Profile) -> Ma10
     Ma10(0)
 }
 
+// The word of an AVS object with these currents. "Its peak current is 0."
+fn avs_with(low: Ma10, high: Ma10) -> u32
+    ensures { λ r. ⌜ r ≡ wordIn (encodeOf (object.Avs 0 low high)) ⌝ }
+{
+    let e = objects::avs_word(0, low, high);
+    word_in(e)
+}
+
 pub(crate) fn avs_word(p: Profile) -> u32
     requires { ⌜ Within p ⌝ }
     ensures { λ r. ⌜ r ≡ slotWord p false (Avs (ltb 90 (p .max .0))) ⌝ }
 {
     let low = built_current(p, 15);
     let high = second_current(p);
-    let e = objects::avs_word(0, low, high);
-    word_in(e)
+    avs_with(low, high)
 }
 
 pub(crate) fn supply_word(p: Profile, volts: u16, top: Mv100) -> u32
@@ -122,14 +135,26 @@ fn put_rails(words: &mut [u32; 7], p: Profile) -> usize
     at
 }
 
+// The current of a fixed word stands in its bits 9..0.
+fn current_in(word: u32) -> Ma10
+    ensures { λ r. ⌜ r .0 ≡ bits word 9 0 ⌝ }
+{
+    Ma10((word & 0x3FF) as u16)
+}
+
+// "The first AVS current is that of the 15 V object. The second is that of the 20 V object, or zero where there is none." They are taken
+// from the words put down before, since each costs a division to work out again. The rows rise, so a row that M exceeds has its word at
+// its own place; at the place of any other there is still 0.
 fn put_avs(words: &mut [u32; 7], at: usize, p: Profile) -> usize
-    requires { ⌜ Within p × (54 < p .max .0 → at < 7) ⌝ }
-    ensures { λ r. ⌜ PutIf (ltb 54 (p .max .0)) (slotWord p (eqb at 0) (Avs (ltb 90 (p .max .0)))) (now (words .entry)) at (now (words .exit)) r ⌝ }
+    requires { ⌜ NoneApply (profileRefusals p) × PutDown p (length (fixedSlots (p .max .0) rails)) (now words) at ⌝ }
+    ensures { λ r. ⌜ PutDown p (length (baseSlots (p .max .0))) (now (words .exit)) r ⌝ }
 {
     if p.max.0 <= AVS_ABOVE.0 {
         return at;
     }
-    let word = avs_word(p);
+    let low = current_in(words[ROW_15_V]);
+    let high = current_in(words[ROW_20_V]);
+    let word = avs_with(low, high);
     put(words, at, word)
 }
 

@@ -38,6 +38,12 @@ pub(crate) const RAILS: [Rail; 4] = [
     },
 ];
 
+// The row whose current is the first AVS current too.
+pub(crate) const ROW_15_V: usize = 2;
+
+// The row whose current is the second AVS current too.
+pub(crate) const ROW_20_V: usize = 3;
+
 // The port maximum that a port with AVS exceeds.
 pub(crate) const AVS_ABOVE: HalfWatts = HalfWatts(54);
 

@@ -12,8 +12,6 @@ use Rattle.lists.specs.declared.Listing.{Listing}
 use Rattle.lists.specs.Writing.{writeRefused}
 use Rattle.rules.specs.Profiles.{profileRefusals}
 use Rattle.rules.proofs.ProfileCases.{profile-numbered, max-high, within-bounds}
-use Rattle.rules.proofs.TableWalk.{avs-stands}
-use Rattle.rules.proofs.PutDown.{avs-put, room}
 use Rattle.rules.proofs.Builds.{build-refused, build-6, build-done, built-count-high}
 use borrow.Author.Needs.{needs}
 use Rattle.rules.proofs.building.build.Statement.{statement}
@@ -62,17 +60,10 @@ put-rails-requires : tie.Need-put-rails-requires
 put-rails-requires c κs = (within-bounds _ (clear (c .before .before .before)), refl)
 
 put-avs-requires : tie.Need-put-avs-requires
-put-avs-requires c κs =
-    let n = c .before .before .before .before .before in
-    let p = n .before .before .before .args .p in
-    (within-bounds p (clear n), λ t. room p (max-high p (clear n)) _ _ _ (c .before .put-rails .ensures .place) (avs-stands (p .max .0) t))
+put-avs-requires c κs = (clear (c .before .before .before .before .before), c .before .put-rails .ensures)
 
 put-supplies-requires : tie.Need-put-supplies-requires
-put-supplies-requires c κs =
-    let r = c .before .before .before in
-    let n = r .before .before .before .before in
-    let p = n .before .before .before .args .p in
-    (within-bounds p (clear n), avs-put p (max-high p (clear n)) (r .put-rails .ensures) (c .before .put-avs .ensures))
+put-supplies-requires c κs = (within-bounds _ (clear (c .before .before .before .before .before .before .before)), c .before .put-avs .ensures)
 
 cast-t13 : tie.Need-cast-t13
 cast-t13 c =
