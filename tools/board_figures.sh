@@ -45,47 +45,53 @@ fi
 
 # The emulator counts an instruction as 1024 ns, and its clock stands where the program sleeps.
 counted=(-icount shift=10,sleep=off)
-built=rust/target/board/$target/release
+library=rust/target/board/$target/release/libarinduleu_c.a
+model=rust/target/board/$target/release/libmodel_c.a
 
-# side NAME LIBRARY OPTION...: NAME.figures gets the lines of measure.c, with the divisions of a second run in their columns.
+# side NAME ARCHIVE OPTION...: NAME.figures gets for each call the mean and the most of instructions, the most stack, and of a second run the mean and
+# the most of divisions.
 side() {
-  local name=$1 library=$2
+  local name=$1 archive=$2
   shift 2
-  build_for_board bench/board/measure.c "$made/measure" "$library" "$@"
+  build_for_board bench/board/measure.c "$made/measure" "$archive" "$@"
   answers_as_here "$name" "${counted[@]}"
+  [ "$(head -n 1 "$made/out")" = "hundred 100" ] || fail "the emulator's clock does not count instructions: $(head -n 1 "$made/out")"
   mv "$made/out" "$made/plain"
-  build_for_board bench/board/measure.c "$made/measure" "$library" "$@" -DDIVISIONS -Wl,--wrap=__aeabi_uidiv,--wrap=__aeabi_uidivmod
+  build_for_board bench/board/measure.c "$made/measure" "$archive" "$@" -DDIVISIONS -Wl,--wrap=__aeabi_uidiv,--wrap=__aeabi_uidivmod
   answers_as_here "$name" "${counted[@]}"
-  paste -d ' ' "$made/plain" "$made/out" | awk '{ print $1, $4 / $3, $6, $7, $13 / $11, $16 }' > "$made/$name.figures"
+  paste -d ' ' "$made/plain" "$made/out" | awk '/^arin_/ { print $1, $4 / $3, $6, $7, $13 / $11, $16 }' > "$made/$name.figures"
 }
 
-# flash LIBRARY CALL...: bytes of code and constants.
+# flash ARCHIVE CALL...: bytes of code and constants.
 flash() {
-  local library=$1
+  local archive=$1
   shift
-  "${compiler[@]}" "${linking[@]}" --specs=nano.specs "-Wl,-e,$1" "${@/#/-Wl,-u,}" "$library" -o "$made/kept"
+  "${compiler[@]}" "${linking[@]}" --specs=nano.specs "-Wl,-e,$1" "${@/#/-Wl,-u,}" "$archive" -o "$made/kept"
   arm-none-eabi-size "$made/kept" | awk 'NR == 2 { print $1 + $2 }'
 }
 
 rust_for "$target" || fail "$why_not"
 CARGO_PROFILE_RELEASE_OPT_LEVEL=$level quietly "the library and the model do not build for $target" \
-  "${rust_words[@]}" cargo build --release --offline --manifest-path rust/Cargo.toml --target-dir rust/target/board --target "$target" -p arinduleu-c -p model-c
+  "${rust_words[@]}" cargo build --release --offline --manifest-path rust/Cargo.toml --target-dir rust/target/board --target "$target" \
+  -p arinduleu-c -p model-c
 board_inputs
-side library "$built/libarinduleu_c.a"
-side model "$built/libmodel_c.a" -DMODEL
+side library "$library"
+side model "$model" -DMODEL
 calls=$(cut -d ' ' -f 1 "$made/library.figures")
 
-echo "opt-level $level, rustc $its_version, gcc $(arm-none-eabi-gcc -dumpversion), $(qemu-system-arm --version | sed -n '1s/.*version \([0-9.]*\).*/qemu \1/p')"
+qemu=$(qemu-system-arm --version | sed -n '1s/.*version \([0-9.]*\).*/\1/p')
+echo "opt-level $level, rustc $its_version, gcc $(arm-none-eabi-gcc -dumpversion), qemu $qemu"
 echo
 echo "| call | flash alone, library | model | stack, library | model |"
 echo "|---|--:|--:|--:|--:|"
 while read -r call _ _ stack _ _ model_stack; do
-  echo "| $call | $(flash "$built/libarinduleu_c.a" "$call") | $(flash "$built/libmodel_c.a" "model_${call#arin_}") | $stack | $model_stack |"
+  echo "| $call | $(flash "$library" "$call") | $(flash "$model" "model_${call#arin_}") | $stack | $model_stack |"
 done < <(paste -d ' ' "$made/library.figures" <(cut -d ' ' -f 4 "$made/model.figures"))
 # shellcheck disable=SC2086 # the calls are several words
-echo "| all thirteen | $(flash "$built/libarinduleu_c.a" $calls) | $(flash "$built/libmodel_c.a" ${calls//arin_/model_}) | | |"
+echo "| all thirteen | $(flash "$library" $calls) | $(flash "$model" ${calls//arin_/model_}) | | |"
 echo
-echo "| call | instructions, library | model | library / model | the most, library | model | library / model | divisions, library | model | the most, library | model |"
+echo -n "| call | instructions, library | model | library / model | the most, library | model | library / model |"
+echo " divisions, library | model | the most, library | model |"
 echo "|---|--:|--:|--:|--:|--:|--:|--:|--:|--:|--:|"
 paste -d ' ' "$made/library.figures" "$made/model.figures" | awk '
   {

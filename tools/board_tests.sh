@@ -58,15 +58,16 @@ at_level() {
   run_all "$where" "${emulator[@]}" -kernel
   build_for_board bench/board/measure.c "$made/measure" "$prefix/lib/libarinduleu.a"
   answers_as_here "$where"
-  pass "each of $(awk '{ calls += $2 } END { print calls }' "$made/out") calls of the benchmark answers as on this machine, $where"
+  pass "each of $(awk '/^arin_/ { calls += $2 } END { print calls }' "$made/out") calls of the benchmark answers as on this machine, $where"
 }
 
 # What a firmware author does: copies the folder, and makes it with what was installed.
 charger() {
   have make || { skip "the charger of examples/board" "no make"; return; }
   cp -R examples/board "$made/charger"
-  quietly "examples/board does not build" make -C "$made/charger" ARINDULEU="$made/level-s" WARNINGS="${warnings[*]}"
-  limited make --silent --no-print-directory -C "$made/charger" ARINDULEU="$made/level-s" run > "$made/out" || fail "the charger of examples/board ended badly"
+  local words=(make --silent --no-print-directory -C "$made/charger" "ARINDULEU=$made/level-s")
+  quietly "examples/board does not build" "${words[@]}" WARNINGS="${warnings[*]}"
+  limited "${words[@]}" run > "$made/out" || fail "the charger of examples/board ended badly"
   diff examples/board/charger.out "$made/out" >&2 || fail "the charger does not print examples/board/charger.out"
   pass "the charger of examples/board, copied and made, hands back what it should ($(grep -c '^[A-Z]' examples/board/charger.out) events)"
 }

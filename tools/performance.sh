@@ -1,5 +1,5 @@
 #!/usr/bin/env bash
-# The first four tables of docs/PERFORMANCE.md: times, instructions, caps, code size. Each part can be run by itself.
+# The tables of docs/PERFORMANCE.md from Time to On a board. Each part can be run by itself.
 set -euo pipefail
 cd "$(dirname "$0")/.."
 
@@ -24,3 +24,7 @@ echo
 echo "## Code size"
 echo
 tools/code_size.sh
+echo
+echo "## On a board"
+echo
+tools/board_figures.sh

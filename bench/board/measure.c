@@ -284,6 +284,12 @@ static void no_call(void)
     stopped = *timer;
 }
 
+static void hundred_instructions(void)
+{
+    __asm__ volatile(".rept 100\n nop\n .endr");
+    stopped = *timer;
+}
+
 static void call_default_profile(void)
 {
     ASK(profiled, CALL(default_profile)(max));
@@ -464,6 +470,7 @@ int main(void)
     inputs = opened("inputs", "rb");
     answers = opened("answers", "wb");
     itself = measure(no_call).instructions;
+    printf("hundred %lu\n", (unsigned long)(measure(hundred_instructions).instructions - itself));
     for (int n = 0; n < CALLS; n++)
         measure_call(n, itself);
     return fclose(answers) == 0 ? 0 : 1;

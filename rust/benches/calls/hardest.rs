@@ -1,5 +1,5 @@
-//! Inputs that ask for the most work: every full port with its own list, and eight rows that are all in use. They stand beside the seeded ones where the most
-//! that a call takes is looked for.
+//! Inputs that ask for the most work: every full port with its own list, and eight rows that are all in use. They stand beside the seeded
+//! ones where the most that a call takes is looked for.
 
 use crate::inputs::Turn;
 use crate::tables::NO_ROW;
