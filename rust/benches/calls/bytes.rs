@@ -1,5 +1,5 @@
 //! The inputs of the `arin_` calls and the library's answers as bytes, field by field, low byte first, for a program on a board:
-//! `bench/board/measure.c` reads the ones and writes the others.
+//! `bench/board/bytes.h` reads the ones and writes the others.
 
 use crate::inputs::{self, Turn};
 use crate::wrappers::library;
