@@ -73,7 +73,7 @@ ends "help" 0 ".*A peak low high" -
 arin caps --help
 ends "the help of caps" 0 "prints the listing of a 36 W port .*" -
 arin board --help
-ends "the help of the tests on a board" 0 "Where one of them is missing .*" -
+ends "the help of the tests on a board" 0 "What is missing is named .*" -
 arin console --help
 cmp "$made/out" docs/CONSOLE.md || fail "./arin console --help is not docs/CONSOLE.md"
 ends "the help of the console" 0 ".*" -

@@ -5,15 +5,15 @@
 target=thumbv6m-none-eabi
 
 compiler=(arm-none-eabi-gcc -std=c11 "${warnings[@]}" -mcpu=cortex-m0 -mthumb -Os -ffunction-sections -fdata-sections)
-linking=(-T examples/board/board.ld -nostartfiles -Wl,--gc-sections -Wl,-z,noexecstack)
+linking=(-T examples/board/board.ld -nostartfiles "-Wl,--gc-sections" "-Wl,-z,noexecstack")
 
 # A micro:bit: 16 KiB of RAM. What a program prints and opens goes to this machine by semihosting. The program stands behind these words.
 emulator=(qemu-system-arm -M microbit -display none -monitor none -serial none
-  -chardev stdio,id=host -semihosting-config enable=on,target=native,chardev=host)
+  -chardev "stdio,id=host" -semihosting-config "enable=on,target=native,chardev=host")
 
-# Sets `why`, all that is missing, or nothing.
+# Sets `why`, all that is missing, or nothing. cargo links what it runs here with cc.
 board_lacks() {
-  why=$(lacking cargo arm-none-eabi-gcc qemu-system-arm)
+  why=$(lacking cargo cc arm-none-eabi-gcc qemu-system-arm)
   if have arm-none-eabi-gcc && [ ! -e "$(arm-none-eabi-gcc -print-file-name=rdimon.specs)" ]; then
     why="$why, no newlib for arm-none-eabi-gcc"
   fi
@@ -34,7 +34,8 @@ build_for_board() {
 board_inputs() {
   local benchmark
   local -x CARGO_PROFILE_BENCH_LTO=off CARGO_PROFILE_BENCH_CODEGEN_UNITS=16 CARGO_PROFILE_BENCH_OPT_LEVEL=1
-  benchmark=$(cargo bench --offline --manifest-path rust/Cargo.toml --target-dir rust/target/hurried --bench calls --no-run 2>&1 | tee "$made/log" |
+  local words=(--color never bench --offline --manifest-path rust/Cargo.toml --target-dir rust/target/hurried --bench calls --no-run)
+  benchmark=$(cargo "${words[@]}" 2>&1 | tee "$made/log" |
     sed -n 's/^ *Executable .*(\(.*\))$/\1/p') || true
   [ -x "$benchmark" ] || { tail -n 20 "$made/log" >&2; fail "the benchmark does not build"; }
   quietly "the benchmark does not write its inputs" "$benchmark" --bytes "$made/inputs" "$made/expected"

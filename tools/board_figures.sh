@@ -7,6 +7,10 @@ who=board_figures
 . tools/skipping.sh
 
 level=${1:-s}
+if [ $# -gt 1 ]; then
+  echo "$who: no more than one word is taken: '$2' (tools/board_figures.sh --help tells)" >&2
+  exit 2
+fi
 case "$level" in
   s | z | 1 | 2 | 3) ;;
   -h | --help)
@@ -20,7 +24,7 @@ opt-level s or at the one given (s, z, 1, 2, 3), and prints for each call
   - stack: the most bytes below the caller's, by painting the RAM;
   - instructions, by the emulator's counter: the mean over the benchmark's 2000
     seeded inputs, and the most over these and the hardest (every full port with
-    its own list, eight ports that are all in use);
+    its own list, seven objects in every mix, eight ports that are all in use);
   - divisions: calls of __aeabi_uidiv and __aeabi_uidivmod, counted by wrapping
     them at link time; the instructions in them are in the figures above.
 Every answer is held to this machine's. It needs what tools/board_tests.sh needs.
@@ -43,8 +47,8 @@ if [ -n "$why" ]; then
   exit 0
 fi
 
-# The emulator counts an instruction as 1024 ns, and its clock stands where the program sleeps.
-counted=(-icount shift=10,sleep=off)
+# The emulator counts an instruction as 1024 ns, and its clock does not follow this machine's.
+counted=(-icount "shift=10,sleep=off")
 library=rust/target/board/$target/release/libarinduleu_c.a
 model=rust/target/board/$target/release/libmodel_c.a
 

@@ -23,12 +23,14 @@ and at 3, and builds with it for a Cortex-M0 and runs on an emulated micro:bit
   - the inputs of the benchmark, whose answers have to be those of this machine;
   - examples/board, copied to another folder and made there, whose output is
     compared with examples/board/charger.out.
-It needs cargo, arm-none-eabi-gcc with newlib, qemu-system-arm and, for the last
-part, make; and a rustc that has the target or the sources of its core. On Debian
-  apt install gcc-arm-none-eabi libnewlib-arm-none-eabi qemu-system-arm
+It needs cargo, cc, arm-none-eabi-gcc with newlib, qemu-system-arm and, for the
+last part, make; and a rustc that has the target or the sources of its core. On
+Debian
+  apt install gcc make gcc-arm-none-eabi libnewlib-arm-none-eabi qemu-system-arm
 and `rustup target add thumbv6m-none-eabi`, or without rustup
-  apt install rustc rust-src         (Debian 13; rustc-web, rust-web-src in 12)
-Where one of them is missing all of it is skipped, and the line says what.
+  apt install rustc cargo rust-src                 (Debian 13)
+  apt install rustc-web cargo-web rust-web-src     (Debian 12)
+What is missing is named in the line that says what is skipped for it.
 END
     exit 0
     ;;
@@ -65,6 +67,7 @@ at_level() {
 charger() {
   have make || { skip "the charger of examples/board" "no make"; return; }
   cp -R examples/board "$made/charger"
+  rm -f "$made/charger/charger.elf"
   local words=(make --silent --no-print-directory -C "$made/charger" "ARINDULEU=$made/level-s")
   quietly "examples/board does not build" "${words[@]}" WARNINGS="${warnings[*]}"
   limited "${words[@]}" run > "$made/out" || fail "the charger of examples/board ended badly"

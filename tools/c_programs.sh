@@ -1,4 +1,4 @@
-# What tools/c_tests.sh and tools/board_tests.sh share: the C programs of examples/ and tests/c, built by the caller into the folder of what is made,
+# What tools/c_tests.sh and the tools for boards share: the C programs of examples/ and tests/c, built by the caller into the folder of what is made,
 # then run here and compared. The caller has tools/skipping.sh and tools/passing.sh.
 
 warnings=(-Wall -Wextra -Wpedantic -Werror)

@@ -1,5 +1,5 @@
-# What tools/c_tests.sh and tools/rust_package.sh share: tests that pass, or end it all, and a folder for what they make. The caller sets `who`,
-# its own name, and has tools/skipping.sh.
+# What the test scripts in tools/ share: tests that pass, or end it all, and a folder for what they make. The caller sets `who`, its own name, and has
+# tools/skipping.sh.
 
 passed=0
 made=$(mktemp -d)

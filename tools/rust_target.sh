@@ -22,12 +22,14 @@ older() {
 # choose_rustc TARGET: sets `chosen`, the first rustc that has the target or the sources to make its core, and `its_version`. Where there is none,
 # sets `why_not` and fails. The one on the PATH is asked first, then the distribution's, which has sources more often.
 choose_rustc() {
-  local oldest
+  local oldest path asked=
   oldest=$(sed -n 's/^rust-version = "\(.*\)"$/\1/p' rust/Cargo.toml)
   why_not=
   for chosen in "${RUSTC:-rustc}" /usr/bin/rustc; do
     its_version=$("$chosen" --version 2> /dev/null | cut -d ' ' -f 2) || continue
-    case "$why_not" in *"rustc $its_version "*) continue ;; esac
+    path=$(readlink -f "$(command -v "$chosen")")
+    [ "$path" != "$asked" ] || continue
+    asked=$path
     if older "$its_version" "$oldest"; then
       why_not="$why_not, rustc $its_version is older than $oldest"
     elif has_core "$chosen" "$1" || core_source "$chosen" > /dev/null; then
@@ -69,7 +71,8 @@ rust_for() {
   choose_rustc "$1" || return 1
   rust_words=(env "RUSTC=$chosen")
   ! has_core "$chosen" "$1" || return 0
-  folder=$PWD/rust/target/core/$its_version-$1
+  # Two compilers of one version may differ; what they say of themselves tells them apart.
+  folder=$PWD/rust/target/core/$1-$its_version-$("$chosen" -vV | cksum | cut -d ' ' -f 1)
   mkdir -p rust/target/core
   if [ ! -d "$folder" ] && ! make_core "$chosen" "$1" "$folder" > rust/target/core/log 2>&1; then
     why_not="rustc $its_version does not compile its core for $1 (rust/target/core/log tells)"

@@ -62,8 +62,8 @@ uint64_t __wrap___aeabi_uidivmod(uint32_t numerator, uint32_t divisor)
 /* ---- The calls, in the order in which the benchmark numbers them ---- */
 
 /*
- * The timer that every Cortex-M has, 24 bits, counting down. The emulator is told that an instruction takes 1024 ns and the timer runs at
- * 16 MHz, so 16.384 ticks are one instruction.
+ * SysTick, 24 bits, counting down. The emulator is told that an instruction takes 1024 ns and the timer runs at 16 MHz, so 16.384 ticks are one
+ * instruction.
  */
 static volatile uint32_t *const timer_control = (uint32_t *)0xE000E010;
 static volatile uint32_t *const timer_reload = (uint32_t *)0xE000E014;

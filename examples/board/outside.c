@@ -45,6 +45,7 @@ static const struct {
     { 6, { 'R', 2, 0x2C, 0xB1, 0x04, 0x20 } }, /* 9 V at 3 A */
     { 2, { 'P', 2 } },
     { 6, { 'R', 1, 0xC8, 0x20, 0x03, 0x20 } }, /* 9 V at 2 A */
+    { 6, { 'R', 2, 0xAF, 0xBC, 0x02, 0x40 } }, /* 20 V at 1.75 A, but port 1 is not at 9 V yet */
     { 2, { 'P', 1 } },                         /* port 2 can have more */
     { 6, { 'R', 2, 0x45, 0x15, 0x05, 0x40 } }, /* 20 V at 3.25 A */
     { 2, { 'P', 2 } },
@@ -53,6 +54,7 @@ static const struct {
     { 2, { 'D', 2 } },                         /* port 1 can have more */
     { 2, { 'D', 2 } },                         /* it is empty already */
     { 3, { 'A', 3, 5 } },                      /* there is no port 3 */
+    { 6, { 'R', 0, 0x2C, 0xB1, 0x04, 0x20 } }, /* and no port 0 */
     { 1, { 'X' } },
 };
 
@@ -134,7 +136,7 @@ void tick(void)
         send_next();
 }
 
-/* The timer that every Cortex-M has, with an interrupt about every millisecond at 16 MHz. */
+/* SysTick, with an interrupt about every millisecond at 16 MHz. Most Cortex-M have it, and so has the emulated micro:bit. */
 void outside_begin(void)
 {
     volatile uint32_t *const control = (uint32_t *)0xE000E010, *const reload = (uint32_t *)0xE000E014, *const value = (uint32_t *)0xE000E018;

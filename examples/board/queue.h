@@ -1,6 +1,6 @@
 /*
  * A queue of bytes between an interrupt and main, one on each side: one puts, the other takes. Neither waits, and neither has to hold the other
- * off, because each writes a count of its own.
+ * off, because each writes a count of its own. Two interrupts that put into one queue must not interrupt each other.
  */
 #ifndef QUEUE_H
 #define QUEUE_H
@@ -8,8 +8,10 @@
 #include <stdbool.h>
 #include <stdint.h>
 
-/* A power of two, since the counts run on past it. A list of seven words takes 31 bytes. */
+/* A list of seven words takes 31 bytes. */
 enum { QUEUE_ROOM = 64 };
+
+_Static_assert((QUEUE_ROOM & (QUEUE_ROOM - 1)) == 0, "a power of two, since the counts run on past it");
 
 struct queue {
     volatile uint8_t bytes[QUEUE_ROOM];
@@ -42,8 +44,5 @@ static inline bool queue_take(struct queue *q, uint8_t *byte)
 
 /* From the PD stack to the charger, and back. */
 extern struct queue to_charger, to_stack;
-
-/* outside.c: lets the bytes come. */
-void outside_begin(void);
 
 #endif

@@ -1,6 +1,6 @@
 /*
- * What a Cortex-M0 runs before main: the vector table, which the core reads at address 0, and the reset that it names. What is named here and
- * not there comes from board.ld.
+ * What a Cortex-M0 runs before main: the vector table, which the core reads at address 0, and the reset that it names. The names of places come
+ * from board.ld. C++ constructors are not run.
  */
 #include <stdint.h>
 

@@ -1,15 +1,17 @@
-//! Inputs that ask for the most work: every full port with its own list, and eight rows that are all in use. They stand beside the seeded
-//! ones where the most that a call takes is looked for.
+//! Inputs that ask for the most work: every full port with its own list, lists of seven objects in every mix of kinds, and eight rows that are
+//! all in use. They stand beside the seeded ones where the most that a call takes is looked for.
 
 use crate::inputs::Turn;
+use crate::lists::{fixed, push};
 use crate::tables::NO_ROW;
-use crate::wrappers::library::{attach, build, decode, detach, flat_read, request, set_up};
+use crate::wrappers::library::{attach, build, decode, detach, flat_read, request, set_up, shape};
 use arinduleu::flat::FlatObjects;
 use arinduleu::lists::Words;
 use arinduleu::objects::{Decoded, Object};
 use arinduleu::ports::Row;
 use arinduleu::rules::Profile;
-use arinduleu::steps::HalfWatts;
+use arinduleu::steps::{HalfWatts, Ma10, Ma50, Mv100, Mv50, Mw250};
+use arinduleu::verdicts;
 
 /// P = M for every M, with each cable, rounding and wish for PPS.
 pub fn profiles() -> Vec<Profile> {
@@ -32,12 +34,87 @@ pub fn profiles() -> Vec<Profile> {
     all
 }
 
-pub fn lists() -> Vec<Words> {
+fn built() -> Vec<Words> {
     profiles().into_iter().map(|p| build(p).list).collect()
 }
 
+/// Seven objects: so many fixed, battery and variable, an AVS or none, and PPS for the rest.
+fn mix(fixed_ones: usize, batteries: usize, variables: usize, avs: usize) -> Words {
+    let mut list = Words {
+        words: [0; 7],
+        count: 0,
+    };
+    // 5, 15 and 20 V first, which AVS goes by.
+    let mut volts = [100, 300, 400, 180, 200, 240, 360][..fixed_ones].to_vec();
+    volts.sort_unstable();
+    volts.iter().for_each(|v| push(&mut list, fixed(*v, 250)));
+    for _ in 0..batteries {
+        push(
+            &mut list,
+            Object::Battery {
+                max: Mv50(420),
+                min: Mv50(60),
+                power: Mw250(400),
+            },
+        );
+    }
+    for _ in 0..variables {
+        push(
+            &mut list,
+            Object::Variable {
+                max: Mv50(400),
+                min: Mv50(60),
+                current: Ma10(500),
+            },
+        );
+    }
+    for _ in 0..avs {
+        let current = |v| Ma10(if volts.contains(&v) { 250 } else { 0 });
+        push(
+            &mut list,
+            Object::Avs {
+                peak: 0,
+                low: current(300),
+                high: current(400),
+            },
+        );
+    }
+    while list.count < 7 {
+        push(
+            &mut list,
+            Object::Pps {
+                limited: 1,
+                max: Mv100(210),
+                min: Mv100(50),
+                current: Ma50(60),
+            },
+        );
+    }
+    list
+}
+
+/// Every mix whose shape passes.
+fn mixed() -> Vec<Words> {
+    let mut all = Vec::new();
+    for fixed_ones in 1..=7 {
+        for batteries in 0..=7 - fixed_ones {
+            for variables in 0..=7 - fixed_ones - batteries {
+                for avs in 0..=1.min(7 - fixed_ones - batteries - variables) {
+                    all.push(mix(fixed_ones, batteries, variables, avs));
+                }
+            }
+        }
+    }
+    all.retain(|list| shape(*list).number == verdicts::SUCCESS);
+    all
+}
+
+pub fn lists() -> Vec<Words> {
+    [built(), mixed()].concat()
+}
+
 pub fn checks() -> Vec<(Profile, Words)> {
-    profiles().into_iter().zip(lists()).collect()
+    profiles().into_iter().zip(built()).collect()
 }
 
 pub fn flat_lists() -> Vec<FlatObjects> {
@@ -50,10 +127,13 @@ fn most_of(list: Words, at: u8) -> u32 {
         u32::from(operating) << 10 | u32::from(volts) << 9 | u32::from(current)
     };
     let asked = match decode(list.words[usize::from(at)]) {
-        Decoded::Known(Object::Fixed { current, .. }) => figures(current.0, 0, current.0),
+        Decoded::Known(Object::Fixed { current, .. } | Object::Variable { current, .. }) => {
+            figures(current.0, 0, current.0)
+        }
+        Decoded::Known(Object::Battery { power, .. }) => figures(power.0, 0, power.0),
         Decoded::Known(Object::Pps { max, current, .. }) => figures(0, 5 * max.0, current.0),
         Decoded::Known(Object::Avs { low, .. }) => figures(0, 600, low.0 / 5),
-        _ => unreachable!("no list that is built has another kind"),
+        Decoded::NotAllowed => unreachable!("these lists pass the shape check"),
     };
     u32::from(at + 1) << 28 | asked
 }

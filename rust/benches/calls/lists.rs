@@ -10,7 +10,7 @@ use arinduleu::objects::{Encoded, Object};
 use arinduleu::rules::Profile;
 use arinduleu::steps::{HalfWatts, Ma10, Ma50, Mv100, Mv50, Mw250};
 
-fn push(list: &mut Words, object: Object) {
+pub fn push(list: &mut Words, object: Object) {
     if let Encoded::Word(word) = encode(object) {
         if list.count < 7 {
             list.words[usize::from(list.count)] = word;
@@ -19,7 +19,7 @@ fn push(list: &mut Words, object: Object) {
     }
 }
 
-fn fixed(volts: u16, current: u16) -> Object {
+pub fn fixed(volts: u16, current: u16) -> Object {
     Object::Fixed {
         flags: 0,
         peak: 0,

@@ -2,7 +2,9 @@
 //! pointer, as one would write it by hand; they are those of `include/arinduleu.h`.
 #![no_std]
 
-use model::{FlatObjects, FlatReading, Listing, Profile, Profiled, RemainingPower, Row, Verdict, Words};
+use model::{
+    FlatObjects, FlatReading, Listing, Profile, Profiled, RemainingPower, Row, Verdict, Words,
+};
 
 /// As the library has it: a count of zero is no row, whatever the pointer.
 ///
@@ -58,27 +60,53 @@ pub unsafe extern "C" fn model_set_up(rows: *mut Row, count: usize, capacity: u1
 }
 
 #[no_mangle]
-pub unsafe extern "C" fn model_attach(rows: *mut Row, count: usize, capacity: u16, port: u8, cable: u8) -> Listing {
+pub unsafe extern "C" fn model_attach(
+    rows: *mut Row,
+    count: usize,
+    capacity: u16,
+    port: u8,
+    cable: u8,
+) -> Listing {
     model::attach(unsafe { lent(rows, count) }, capacity, port, cable)
 }
 
 #[no_mangle]
-pub unsafe extern "C" fn model_advertise(rows: *mut Row, count: usize, capacity: u16, port: u8) -> Listing {
+pub unsafe extern "C" fn model_advertise(
+    rows: *mut Row,
+    count: usize,
+    capacity: u16,
+    port: u8,
+) -> Listing {
     model::advertise(unsafe { lent(rows, count) }, capacity, port)
 }
 
 #[no_mangle]
-pub unsafe extern "C" fn model_request(rows: *mut Row, count: usize, capacity: u16, port: u8, word: u32) -> Verdict {
+pub unsafe extern "C" fn model_request(
+    rows: *mut Row,
+    count: usize,
+    capacity: u16,
+    port: u8,
+    word: u32,
+) -> Verdict {
     model::request(unsafe { lent(rows, count) }, capacity, port, word)
 }
 
 #[no_mangle]
-pub unsafe extern "C" fn model_detach(rows: *mut Row, count: usize, capacity: u16, port: u8) -> Verdict {
+pub unsafe extern "C" fn model_detach(
+    rows: *mut Row,
+    count: usize,
+    capacity: u16,
+    port: u8,
+) -> Verdict {
     model::detach(unsafe { lent(rows, count) }, capacity, port)
 }
 
 #[no_mangle]
-pub unsafe extern "C" fn model_remaining(rows: *mut Row, count: usize, capacity: u16) -> RemainingPower {
+pub unsafe extern "C" fn model_remaining(
+    rows: *mut Row,
+    count: usize,
+    capacity: u16,
+) -> RemainingPower {
     model::remaining(unsafe { lent(rows, count) }, capacity)
 }
 
