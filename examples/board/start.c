@@ -21,7 +21,7 @@ void reset(void)
         ;
 }
 
-/* A charger takes the voltage off its ports here. Weak, so that another file may have its own; outside.c does. */
+/* A charger takes the voltage off its ports here. Weak, so that another file may have its own, as outside.c. */
 __attribute__((weak)) void fault(void)
 {
     for (;;)
