@@ -39,6 +39,7 @@ END
     exit 2
     ;;
 esac
+
 . tools/passing.sh
 . tools/c_programs.sh
 . tools/board.sh

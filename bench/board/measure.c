@@ -192,7 +192,7 @@ static __attribute__((noinline)) struct cost measure(void (*call)(void))
 {
     enum { PAINTED = 1000, PAINT = 0x5AA55AA5 };
     volatile uint32_t *top;
-    uint32_t started, unused;
+    uint32_t started, used;
     struct cost cost;
 
     __asm__ volatile("mov %0, sp" : "=r"(top));
@@ -200,10 +200,10 @@ static __attribute__((noinline)) struct cost measure(void (*call)(void))
         top[-i] = PAINT;
     started = *timer;
     call();
-    for (unused = PAINTED; unused > 0 && top[-(int)unused] == PAINT; unused--)
+    for (used = PAINTED; used > 0 && top[-(int)used] == PAINT; used--)
         ;
     cost.instructions = (((started - stopped) & 0xFFFFFF) * 1000 + 8192) / 16384;
-    cost.stack = 4 * unused;
+    cost.stack = 4 * used;
     return cost;
 }
 

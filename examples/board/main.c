@@ -132,6 +132,10 @@ static void offer_to_others(uint8_t but)
 /* The port is at its voltage, or has none: what it gave up can be given to others. */
 static void settled(uint8_t port)
 {
+    if (port < 1 || port > PORTS) {
+        put_fault((struct arin_verdict){ ARIN_NO_SUCH_PORT, 0 });
+        return;
+    }
     if (port == moving)
         moving = 0;
     if (moving == 0)

@@ -55,6 +55,7 @@ static const struct {
     { 2, { 'D', 2 } },                         /* it is empty already */
     { 3, { 'A', 3, 5 } },                      /* there is no port 3 */
     { 6, { 'R', 0, 0x2C, 0xB1, 0x04, 0x20 } }, /* and no port 0 */
+    { 2, { 'P', 3 } },
     { 1, { 'X' } },
 };
 
