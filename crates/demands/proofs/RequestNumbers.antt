@@ -1,16 +1,16 @@
 -- Proves the claims of specs/RequestNumbers.antt.
 -- Assumes nothing.
 use mathlib.Core.Path.{_≡_, refl, sym, ap, _∙_, subst}
-use mathlib.Core.Bool.{Bool, true, false, _&&_, and-eq-true-iff}
+use mathlib.Core.Bool.{Bool, true, false, and-eq-true-iff}
 use mathlib.Core.List.{List, [], _∷_, _++_}
-use Prim.Native.Nat.{ℕ, zero, suc}
+use Prim.Native.Nat.{ℕ}
 use native.Mathlib.Omega.{arith}
 use lib.Dec.{leb, ltb, eqb}
 use lib.ListN.{length}
 use borrow.Author.Tests.{eqb-true, eqb-false, leb-true}
 use Rattle.verdicts.specs.declared.Verdict.{Verdict}
 use Rattle.verdicts.specs.Refusals.{Refusal, refusal, eachPlace, firstOf, verdict, success, verdictOf, NoneApply}
-use Rattle.verdicts.proofs.First.{none-applied, stops, goes-on}
+use Rattle.verdicts.proofs.First.{none-applied, stops, goes-on, allPass, pass-append, pass-places, number-passes}
 use Rattle.requests.proofs.Answers.{answer-numbered, answer-verdict}
 use Rattle.ports.specs.declared.Row.{Row}
 use Rattle.ports.specs.Rows.{portRow, allHeld, leftFor}
@@ -23,29 +23,6 @@ use Rattle.demands.specs.RuleLists.{OwnRefusal}
 use Rattle.demands.specs.RequestNumbers.{ofSharing, Outcome, accepted, own, shared, RequestOutcome, NeverOfShape}
 use Rattle.ports.proofs.RuleLists.{attached-offerable}
 use Rattle.demands.proofs.RuleLists.{refused-by-own}
-
--- every number of a table passes a test
-abbrev allPass : (ℕ → Bool) → List Refusal → Bool
-allPass test [] = true
-allPass test (refusal b n p ∷ rs) = test n && allPass test rs
-
-module _ (test : ℕ → Bool) where
-  pass-append : (xs ys : List Refusal) → allPass test xs ≡ true → allPass test ys ≡ true → allPass test (xs ++ ys) ≡ true
-  pass-append [] ys s t = t
-  pass-append (refusal b n p ∷ xs) ys s t =
-      let h = and-eq-true-iff (test n) (allPass test xs) .0 s in
-      and-eq-true-iff (test n) (allPass test (xs ++ ys)) .1 (h .0, pass-append xs ys (h .1) t)
-
-  pass-places : (rows : ℕ → List Refusal) → ((k : ℕ) → allPass test (rows k) ≡ true) → (n : ℕ) → allPass test (eachPlace rows n) ≡ true
-  unfolding eachPlace
-  pass-places rows f zero = refl
-  pass-places rows f (suc n) = pass-append (eachPlace rows n) (rows n) (pass-places rows f n) (f n)
-
-  number-passes : (rs : List Refusal) → allPass test rs ≡ true → (verdictOf rs .number ≡ 0 → ⊥) → test (verdictOf rs .number) ≡ true
-  unfolding firstOf
-  number-passes [] t f = absurd (f refl)
-  number-passes (refusal true n p ∷ rs) t f = and-eq-true-iff (test n) (allPass test rs) .0 t .0
-  number-passes (refusal false n p ∷ rs) t f = number-passes rs (and-eq-true-iff (test n) (allPass test rs) .0 t .1) f
 
 use-shares : (capacity : ℕ) (t : List Row) (port : ℕ) → allPass ofSharing (useRefusals capacity t port) ≡ true
 use-shares capacity t port =

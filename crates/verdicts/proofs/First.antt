@@ -8,7 +8,7 @@ use Prim.Native.Nat.{ℕ, zero, suc, _+_, _<_}
 use native.Mathlib.Nat.{eq-or-lt-of-le, le-of-suc-le-suc, lt-suc-self}
 use native.Mathlib.Numerals.{add-one}
 use native.Mathlib.Omega.{arith}
-use borrow.Author.Tests.{ltb-true, eq-eqb}
+use borrow.Author.Tests.{eq-eqb}
 use lib.Dec.{ltb, eqb}
 use Rattle.verdicts.specs.declared.Verdict.{Verdict}
 use Rattle.verdicts.specs.Refusals.{Refusal, refusal, eachPlace, firstOf, verdict, success, verdictOf, NoneApply, First}
@@ -100,38 +100,71 @@ unfolding eachPlace
 same-places f g zero e = refl
 same-places f g (suc n) e = ap₂ _++_ (same-places f g n (λ k h. e k (omega arith))) (e n (lt-suc-self n))
 
--- ---- every row has a number, and 0 is none
+-- ---- the numbers of a table
+
+-- every number passes a test
+abbrev pub allPass : (ℕ → Bool) → List Refusal → Bool
+allPass test [] = true
+allPass test (refusal b n p ∷ rs) = test n && allPass test rs
+
+module _ (test : ℕ → Bool) where
+  pub pass-append : (xs ys : List Refusal) → allPass test xs ≡ true → allPass test ys ≡ true → allPass test (xs ++ ys) ≡ true
+  pass-append [] ys s t = t
+  pass-append (refusal b n p ∷ xs) ys s t =
+      let h = and-eq-true-iff (test n) (allPass test xs) .0 s in
+      and-eq-true-iff (test n) (allPass test (xs ++ ys)) .1 (h .0, pass-append xs ys (h .1) t)
+
+  pub pass-places : (rows : ℕ → List Refusal) → ((k : ℕ) → allPass test (rows k) ≡ true) → (n : ℕ) → allPass test (eachPlace rows n) ≡ true
+  unfolding eachPlace
+  pass-places rows f zero = refl
+  pass-places rows f (suc n) = pass-append (eachPlace rows n) (rows n) (pass-places rows f n) (f n)
+
+  pub number-passes : (rs : List Refusal) → allPass test rs ≡ true → (verdictOf rs .number ≡ 0 → ⊥) → test (verdictOf rs .number) ≡ true
+  unfolding firstOf
+  number-passes [] t f = absurd (f refl)
+  number-passes (refusal true n p ∷ rs) t f = and-eq-true-iff (test n) (allPass test rs) .0 t .0
+  number-passes (refusal false n p ∷ rs) t f = number-passes rs (and-eq-true-iff (test n) (allPass test rs) .0 t .1) f
+
+-- 0 is success and no refusal
+abbrev pub isNumber : ℕ → Bool
+isNumber n = ltb 0 n
 
 abbrev pub numbered : List Refusal → Bool
-numbered [] = true
-numbered (refusal b n p ∷ rs) = ltb 0 n && numbered rs
+numbered rs = allPass isNumber rs
 
 pub numbered-append : (xs ys : List Refusal) → numbered xs ≡ true → numbered ys ≡ true → numbered (xs ++ ys) ≡ true
-numbered-append [] ys s t = t
-numbered-append (refusal b n p ∷ xs) ys s t =
-    let h = and-eq-true-iff (ltb 0 n) (numbered xs) .0 s in
-    and-eq-true-iff (ltb 0 n) (numbered (xs ++ ys)) .1 (h .0, numbered-append xs ys (h .1) t)
+numbered-append xs ys s t = pass-append isNumber xs ys s t
 
 pub numbered-places : (rows : ℕ → List Refusal) → ((k : ℕ) → numbered (rows k) ≡ true) → (n : ℕ) → numbered (eachPlace rows n) ≡ true
-unfolding eachPlace
-numbered-places rows f zero = refl
-numbered-places rows f (suc n) = numbered-append (eachPlace rows n) (rows n) (numbered-places rows f n) (f n)
+numbered-places rows f n = pass-places isNumber rows f n
 
--- It is enough that every row that applies has a number: a row may have it from an answer that was given before.
+-- ---- no row that applies has the number m: a row may have its number from an answer that was given before
+
+abbrev pub Without : ℕ → List Refusal → Type 0
+Without m [] = Unit {0}
+Without m (refusal b n p ∷ rs) = (n ≡ m → b ≡ false) × Without m rs
+
+module _ (m : ℕ) where
+  pub without-append : (xs ys : List Refusal) → Without m xs → Without m ys → Without m (xs ++ ys)
+  without-append [] ys x y = y
+  without-append (refusal b n p ∷ xs) ys x y = (x .0, without-append xs ys (x .1) y)
+
+  -- what is no number at all is the number of no row
+  pub without-numbered : isNumber m ≡ false → (rs : List Refusal) → numbered rs ≡ true → Without m rs
+  without-numbered out [] t = tt
+  without-numbered out (refusal b n p ∷ rs) t =
+      let h = and-eq-true-iff (isNumber n) (numbered rs) .0 t in
+      ((λ e. absurd (true≢false (sym (h .0) ∙ ap isNumber e ∙ out))), without-numbered out rs (h .1))
+
+-- every row that applies has a number
 abbrev pub Telling : List Refusal → Type 0
-Telling [] = Unit {0}
-Telling (refusal b n p ∷ rs) = (n ≡ 0 → b ≡ false) × Telling rs
+Telling rs = Without 0 rs
 
 pub telling-append : (xs ys : List Refusal) → Telling xs → Telling ys → Telling (xs ++ ys)
-telling-append [] ys x y = y
-telling-append (refusal b n p ∷ xs) ys x y = (x .0, telling-append xs ys (x .1) y)
+telling-append xs ys x y = without-append 0 xs ys x y
 
 pub telling-numbered : (rs : List Refusal) → numbered rs ≡ true → Telling rs
-telling-numbered [] t = tt
-telling-numbered (refusal b n p ∷ rs) t =
-    let h = and-eq-true-iff (ltb 0 n) (numbered rs) .0 t in
-    let l : 0 < n = ltb-true 0 n (h .0) in
-    ((λ z. absurd (omega (arith, l, z))), telling-numbered rs (h .1))
+telling-numbered rs t = without-numbered 0 refl rs t
 
 -- the row of a verdict that was given before applies where that was a refusal
 pub telling-given : (v : Verdict) → Telling (refusal (not (eqb (v .number) 0)) (v .number) (v .place) ∷ [])
