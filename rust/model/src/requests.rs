@@ -5,14 +5,13 @@ use crate::lists::{object_at, shape};
 use crate::steps::round_up;
 use crate::{Asked, Object, Request, Verdict, Words};
 
-/// Bits 27, 21, 20, and bits 27, 21, 8, 7.
-const FIGURES_RESERVED: u32 = 1 << 27 | 1 << 21 | 1 << 20;
-const VOLTS_RESERVED: u32 = 1 << 27 | 1 << 21 | 1 << 8 | 1 << 7;
-
 /// AVS voltages in 25 mV.
 const AVS_9V: u16 = 360;
 const AVS_15V: u16 = 600;
 const AVS_20V: u16 = 800;
+
+// "A reserved bit is ignored, set or clear" (T-01): 27 and 21 are in no field below, 20 is in the
+// voltage alone, 8 and 7 in the maximum figure alone. Only fields are judged, so none is cleared.
 
 pub fn position(word: u32) -> u8 {
     (word >> 28) as u8
@@ -56,7 +55,7 @@ pub fn take_apart(object: &Object, word: u32) -> Asked {
     }
 }
 
-/// "as shape; then 20, 21, 23, 22, 24, 25"
+/// "as shape; then 20, 23, 22, 24, 25"
 pub fn answer(list: &Words, word: u32) -> Verdict {
     let verdict = shape(list);
     if verdict.number != 0 {
@@ -74,7 +73,7 @@ pub fn ask(list: &Words, word: u32) -> Result<Object, Verdict> {
     Ok(object)
 }
 
-/// A request judged by the object that it names: "21, 23, 22, 24, 25".
+/// A request judged by the object that it names: "23, 22, 24, 25".
 pub fn judge(object: &Object, word: u32) -> Verdict {
     check_object(object, word).err().unwrap_or_default()
 }
@@ -91,9 +90,6 @@ fn check_object(object: &Object, word: u32) -> Result<(), Verdict> {
 }
 
 fn check_figures(advertised: u16, word: u32) -> Result<(), Verdict> {
-    if word & FIGURES_RESERVED != 0 {
-        return refuse(REQUEST_RESERVED, 0);
-    }
     if operating(word) > advertised {
         return refuse(OPERATING, 0);
     }
@@ -104,9 +100,6 @@ fn check_figures(advertised: u16, word: u32) -> Result<(), Verdict> {
 }
 
 fn check_pps(max: u16, min: u16, advertised: u16, word: u32) -> Result<(), Verdict> {
-    if word & VOLTS_RESERVED != 0 {
-        return refuse(REQUEST_RESERVED, 0);
-    }
     // The range is in 100 mV, five times the step of the request.
     let (min, max) = (u32::from(min) * 5, u32::from(max) * 5);
     if !(min..=max).contains(&u32::from(volts(word))) {
@@ -119,9 +112,6 @@ fn check_pps(max: u16, min: u16, advertised: u16, word: u32) -> Result<(), Verdi
 }
 
 fn check_avs(low: u16, high: u16, word: u32) -> Result<(), Verdict> {
-    if word & VOLTS_RESERVED != 0 {
-        return refuse(REQUEST_RESERVED, 0);
-    }
     let volts = volts(word);
     if volts & 0b11 != 0 {
         return refuse(NOT_WHOLE, 0);

@@ -56,6 +56,8 @@ fn table_10_4() {
 #[test]
 fn requests_on_l() {
     assert_eq!(answer(&l(), ask_volts(5, 600, 65)), said(0, 0));
+    let reserved = 1 << 27 | 1 << 21 | 1 << 8 | 1 << 7;
+    assert_eq!(answer(&l(), ask_volts(5, 600, 65) | reserved), said(0, 0));
     assert_eq!(answer(&l(), ask_volts(5, 600, 66)), said(24, 0));
     assert_eq!(answer(&l(), ask_volts(5, 596, 65)), said(24, 0));
     assert_eq!(answer(&l(), ask_volts(5, 602, 65)), said(23, 0));
