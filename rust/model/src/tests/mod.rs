@@ -2,6 +2,7 @@
 
 mod by_hand;
 mod refusals;
+mod reserved;
 
 use crate::*;
 
