@@ -2,15 +2,14 @@
 -- of the table applies are the same behind it, and behind its verdict.
 -- Assumes nothing.
 use mathlib.Core.Path.{_≡_, refl, ap, sym, _∙_}
-use mathlib.Core.Bool.{true, false, not, and-eq-true-iff}
+use mathlib.Core.Bool.{true, false, not}
 use mathlib.Core.List.{List, [], _∷_, _++_}
-use Prim.Native.Nat.{ℕ, _<_}
-use native.Mathlib.Omega.{arith}
-use lib.Dec.{ltb, eqb}
-use borrow.Author.Tests.{ltb-true, ne-eqb}
+use Prim.Native.Nat.{ℕ}
+use lib.Dec.{eqb}
+use borrow.Author.Tests.{ne-eqb}
 use Rattle.verdicts.specs.declared.Verdict.{Verdict}
 use Rattle.verdicts.specs.Refusals.{Refusal, refusal, firstOf, verdictOf, success, NoneApply}
-use Rattle.verdicts.proofs.First.{none-applied, numbered, refused-so, stops, goes-on, passes}
+use Rattle.verdicts.proofs.First.{none-applied, numbered, number-not-0, numbered-rest, refused-so, stops, goes-on, passes}
 
 abbrev number : Verdict → ℕ
 number v = v .number
@@ -51,7 +50,5 @@ module _ {A : Type 0} (refused : ℕ → ℕ → A) where
       ≡ firstOf refused rs answer
   unfolding firstOf
   verdict-stands [] t answer = refl
-  verdict-stands (refusal true n p ∷ rs) t answer =
-      let h : 0 < n = ltb-true 0 n (and-eq-true-iff (ltb 0 n) (numbered rs) .0 t .0) in
-      rw (ne-eqb n 0 (λ e. omega (arith, h, e))) refl
-  verdict-stands (refusal false n p ∷ rs) t answer = verdict-stands rs (and-eq-true-iff (ltb 0 n) (numbered rs) .0 t .1) answer
+  verdict-stands (refusal true n p ∷ rs) t answer = rw (ne-eqb n 0 (number-not-0 n rs t)) refl
+  verdict-stands (refusal false n p ∷ rs) t answer = verdict-stands rs (numbered-rest n rs t) answer

@@ -2,17 +2,17 @@
 -- of the rows: a law for each call.
 -- Assumes nothing.
 use mathlib.Core.Path.{_≡_, refl, sym, ap, ap₂, _∙_}
-use mathlib.Core.Bool.{Bool, true, false, not, cond, and-eq-true-iff}
+use mathlib.Core.Bool.{Bool, true, false, not, cond}
 use mathlib.Core.List.{List, [], _∷_, _++_, map, append-assoc}
-use Prim.Native.Nat.{ℕ, _+_, _-_, _<_}
+use Prim.Native.Nat.{ℕ, _+_, _-_}
 use native.Mathlib.Omega.{arith}
-use lib.Dec.{ltb, eqb}
+use lib.Dec.{eqb}
 use lib.ListN.{length, set}
 use lib.Seq.{set-out}
-use borrow.Author.Tests.{ltb-true, le-leb, ne-eqb}
+use borrow.Author.Tests.{le-leb, ne-eqb}
 use Rattle.verdicts.specs.declared.Verdict.{Verdict}
 use Rattle.verdicts.specs.Refusals.{Refusal, refusal, firstOf, verdictOf, success, NoneApply}
-use Rattle.verdicts.proofs.First.{none-left, none-right, none-append, numbered, onward, onto}
+use Rattle.verdicts.proofs.First.{none-left, none-right, none-append, numbered, number-not-0, numbered-rest, onward, onto}
 use Rattle.lists.specs.Writing.{writeRefused}
 use Rattle.rules.specs.Profiles.{halfWatts}
 use Rattle.rules.specs.Building.{builtOf}
@@ -38,10 +38,8 @@ module _ (s : Standing) (port : ℕ) (y : Row) where
       → offerOf (firstOf (noChange s) rs (changing port y)) ≡ firstOf writeRefused rs (builtOf (ruleProfile y))
   unfolding firstOf offerOf
   offer-behind [] t = refl
-  offer-behind (refusal true n p ∷ rs) t =
-      let h : 0 < n = ltb-true 0 n (and-eq-true-iff (ltb 0 n) (numbered rs) .0 t .0) in
-      rw (ne-eqb n 0 (λ e. omega (arith, h, e))) refl
-  offer-behind (refusal false n p ∷ rs) t = offer-behind rs (and-eq-true-iff (ltb 0 n) (numbered rs) .0 t .1)
+  offer-behind (refusal true n p ∷ rs) t = rw (ne-eqb n 0 (number-not-0 n rs t)) refl
+  offer-behind (refusal false n p ∷ rs) t = offer-behind rs (numbered-rest n rs t)
 
   -- the place past the last row is no row
   rows-behind : (ys : List Row) → s .count ≡ length ys → (rs : List Refusal)

@@ -132,6 +132,14 @@ isNumber n = ltb 0 n
 abbrev pub numbered : List Refusal → Bool
 numbered rs = allPass isNumber rs
 
+-- of a row with the number n, and of those after it
+module _ (n : ℕ) (rs : List Refusal) (t : (isNumber n && numbered rs) ≡ true) where
+  pub number-not-0 : n ≡ 0 → ⊥
+  number-not-0 z = true≢false (sym (and-eq-true-iff (isNumber n) (numbered rs) .0 t .0) ∙ ap isNumber z)
+
+  pub numbered-rest : numbered rs ≡ true
+  numbered-rest = and-eq-true-iff (isNumber n) (numbered rs) .0 t .1
+
 pub numbered-append : (xs ys : List Refusal) → numbered xs ≡ true → numbered ys ≡ true → numbered (xs ++ ys) ≡ true
 numbered-append xs ys s t = pass-append isNumber xs ys s t
 
@@ -149,7 +157,7 @@ module _ (m : ℕ) where
   without-append [] ys x y = y
   without-append (refusal b n p ∷ xs) ys x y = (x .0, without-append xs ys (x .1) y)
 
-  -- what is no number at all is the number of no row
+  -- what is the number of no refusal is the number of no row
   pub without-numbered : isNumber m ≡ false → (rs : List Refusal) → numbered rs ≡ true → Without m rs
   without-numbered out [] t = tt
   without-numbered out (refusal b n p ∷ rs) t =
