@@ -4,8 +4,8 @@
 
 The seed is fixed: the same files come out each time. Each file of inputs/ makes
 one kind of line; unreadable lines are strewn over all of them. At the end the
-lines are counted by refusal number, and a number of the statement's table that was given
-fewer than 20 times fails the run.
+lines are counted by refusal number. A number of the statement's table that was given
+fewer than 20 times fails the run, and so does one that the table does not have.
 """
 
 import sys
@@ -16,7 +16,8 @@ from inputs.book import book
 from inputs.unreadable import STRANGE_LINES
 
 FEWEST = 20
-NUMBERS = [*range(1, 8), *range(10, 26), *range(30, 38)]
+# Those of the statement's table: 21 is withdrawn.
+NUMBERS = [*range(1, 8), *range(10, 21), *range(22, 26), *range(30, 38)]
 
 # A number is its value: leading zeros are read, up to 512 bytes of line.
 ODD_BUT_READABLE = (
@@ -64,7 +65,8 @@ def all_lines():
 
 
 def count_lines():
-    """Lines per refusal number, and the numbers given too seldom."""
+    """Lines per refusal number, the numbers given too seldom, and what begins an
+    answer and is no number of the table."""
     by_number = Counter()
     by_call = Counter()
     for given, answered in zip(book.given, book.answered):
@@ -77,7 +79,8 @@ def count_lines():
     print("unreadable (?): %d, %.1f %%" % (by_number["?"], 100 * by_number["?"] / len(book.given)))
     for number in NUMBERS:
         print("refusal %2d: %d" % (number, by_number[str(number)]))
-    return [number for number in NUMBERS if by_number[str(number)] < FEWEST]
+    seldom = [number for number in NUMBERS if by_number[str(number)] < FEWEST]
+    return seldom, sorted(set(by_number) - {"0", "?", "rows"} - {str(number) for number in NUMBERS})
 
 
 def main():
@@ -88,9 +91,11 @@ def main():
         file.write("\n".join(book.given).encode("latin-1"))
     with open(sys.argv[2], "wb") as file:
         file.write(("\n".join(book.answered) + "\n").encode("ascii"))
-    seldom = count_lines()
+    seldom, unknown = count_lines()
     if seldom:
         sys.exit("given fewer than %d times: %s" % (FEWEST, seldom))
+    if unknown:
+        sys.exit("no number of the table: %s" % unknown)
 
 
 if __name__ == "__main__":

@@ -35,9 +35,8 @@ from charger.rule_check import (
     is_wrong_set, is_fixed_current_allowed, is_prog_current_allowed, is_current_allowed, check,
 )
 from charger.requests import (
-    RESERVED_WITH_FIGURES, RESERVED_WITH_VOLTAGE, request_position, is_mismatch, operating_figure, maximum_figure,
-    requested_voltage, requested_current, refuse_reserved, judge_figures, judge_pps, avs_limit, judge_avs, granted,
-    answer,
+    request_position, is_mismatch, operating_figure, maximum_figure, requested_voltage, requested_current,
+    judge_figures, judge_pps, avs_limit, judge_avs, granted, answer,
 )
 from charger.ports import (
     Row, LEAST_HELD, MOST_CAPACITY, emptied, is_attached, rule_list, all_held, left_for, is_sound, refuse_bad_table,

@@ -1,12 +1,14 @@
-"""Answering a request: whether a list grants what a request asks for."""
+"""Answering a request: whether a list grants what a request asks for.
+
+"A reserved bit of a request is ignored, set or clear, and so is a bit that is not
+examined": each field is taken by its bit places, and nothing looks at any other
+bit. Which places those are depends on the kind of the object, so bit 20 is ignored
+with figures and belongs to a voltage; bits 8 and 7 the other way round.
+"""
 
 from charger.object_words import Avs, Battery, Pps, bits
 from charger.refusals import public_call, refuse_if
 from charger.shapes import shaped
-
-# The reserved rows of the request word, by the kind of the object.
-RESERVED_WITH_FIGURES = (27, 21, 20)
-RESERVED_WITH_VOLTAGE = (27, 21, 8, 7)
 
 
 def request_position(request):
@@ -37,22 +39,15 @@ def requested_current(request):
     return bits(request, 6, 0)
 
 
-def refuse_reserved(request, reserved):
-    """21: a reserved bit of the request is set."""
-    refuse_if(any(bits(request, bit, bit) for bit in reserved), 21)
-
-
 def judge_figures(advertised, request):
     """The operating figure is at most what is advertised; the maximum figure is
     at most what is advertised too, or bit 26 is set."""
-    refuse_reserved(request, RESERVED_WITH_FIGURES)
     refuse_if(operating_figure(request) > advertised, 24)
     refuse_if(maximum_figure(request) > advertised and not is_mismatch(request), 25)
 
 
 def judge_pps(obj, request):
     """The voltage lies in the range of a PPS object, ends included."""
-    refuse_reserved(request, RESERVED_WITH_VOLTAGE)
     millivolts = requested_voltage(request) * 20
     refuse_if(not obj.min * 100 <= millivolts <= obj.max * 100, 22)
     refuse_if(requested_current(request) > obj.current, 24)
@@ -69,9 +64,9 @@ def avs_limit(obj, millivolts):
 
 
 def judge_avs(obj, request):
-    """The voltage is a whole number of 100 mV. It lies from 9 V to 15 V where
-    the second current is zero and else from 9 V to 20 V."""
-    refuse_reserved(request, RESERVED_WITH_VOLTAGE)
+    """The voltage is a whole number of 100 mV: its lowest two bits belong to it,
+    and they count. It lies from 9 V to 15 V where the second current is zero and
+    else from 9 V to 20 V."""
     refuse_if(bits(requested_voltage(request), 1, 0) != 0, 23)
     millivolts = requested_voltage(request) * 25
     end = 15_000 if obj.high == 0 else 20_000
@@ -81,7 +76,7 @@ def judge_avs(obj, request):
 
 def granted(objects, request):
     """The object that a request names, if it may have what it asks for.
-    Order: 20, 21, 23, 22, 24, 25."""
+    Order: 20, 23, 22, 24, 25."""
     position = request_position(request)
     refuse_if(not 1 <= position <= len(objects), 20)
     obj = objects[position - 1]
@@ -98,5 +93,5 @@ def granted(objects, request):
 
 @public_call(None)
 def answer(words, request):
-    """As shape; then 20, 21, 23, 22, 24, 25."""
+    """As shape; then 20, 23, 22, 24, 25."""
     granted(shaped(words), request)

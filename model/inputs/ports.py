@@ -3,7 +3,10 @@
 import charger
 from charger import Row
 from inputs.book import book
-from inputs.requests import request_of, request_of_figures, request_of_voltage
+from inputs.requests import (
+    NOT_EXAMINED, RESERVED_WITH_FIGURES, RESERVED_WITH_VOLTAGE, request_of, request_of_figures, request_of_voltage,
+    reserved_with, with_bits,
+)
 from inputs.saying import hex_of
 from inputs.seed import rng
 
@@ -131,6 +134,50 @@ def edge_of_36():
             book.say("table")
 
 
+def reserved_on_ports():
+    """Requests beside themselves with reserved bits set, each from the same
+    rows: the same answer, and the same rows after it."""
+    rows = [Row(200, 0, 5, 200, 100), Row(100, 1, 5, 100, 15)]
+    objects = rule_objects(rows[1])
+
+    def say_request(capacity, word):
+        return book.say("request %d 2 %s" % (capacity, hex_of(word)))
+
+    # at 15, 12 and 9 V: of a fixed object, of AVS and of PPS
+    for word in (request_of_figures(3, 200, 300, 0), request_of_voltage(5, 480, 40), request_of_voltage(6, 450, 40)):
+        obj = objects[charger.request_position(word) - 1]
+        reserved = reserved_with(obj)
+        power = charger.request_power(rows[1], obj, word)
+        for places in ((), *[(bit,) for bit in reserved], reserved, reserved + NOT_EXAMINED):
+            say_rows(rows)
+            assert say_request(200, with_bits(word, places)) == "0 0"
+            book.say("table")
+            if len(places) != 1:
+                book.say("remaining 200")
+        say_rows(rows)
+        for places in ((), reserved, reserved + NOT_EXAMINED):
+            assert say_request(99 + power, with_bits(word, places)) == "36 2"
+        book.say("table")
+        assert say_request(100 + power, with_bits(word, reserved)) == "0 0"
+        book.say("table")
+    say_rows(rows)
+    for number, word, reserved in (
+        (20, request_of_figures(0, 200, 200, 0), RESERVED_WITH_FIGURES),
+        (24, request_of_figures(3, 301, 300, 0), RESERVED_WITH_FIGURES),
+        (25, request_of_figures(3, 300, 301, 0), RESERVED_WITH_FIGURES),
+        (20, request_of_voltage(len(objects) + 1, 480, 40), RESERVED_WITH_VOLTAGE),
+        (23, request_of_voltage(5, 481, 40), RESERVED_WITH_VOLTAGE),
+        (23, request_of_voltage(5, 357, 127), RESERVED_WITH_VOLTAGE),
+        (22, request_of_voltage(5, 356, 40), RESERVED_WITH_VOLTAGE),
+        (24, request_of_voltage(5, 480, 61), RESERVED_WITH_VOLTAGE),
+        (22, request_of_voltage(6, 249, 40), RESERVED_WITH_VOLTAGE),
+        (24, request_of_voltage(6, 450, 127), RESERVED_WITH_VOLTAGE),
+    ):
+        for places in ((), reserved, reserved + NOT_EXAMINED):
+            assert say_request(200, with_bits(word, places)) == "%d 0" % number
+    book.say("table")
+
+
 def some_sound_row():
     m = rng.choice((15, 31, 54, 55, 90, 91, 119, 120, 200, rng.randint(15, 200)))
     pps = rng.randint(0, 1)
@@ -245,6 +292,7 @@ def set_ups():
 def port_lines():
     port_runs()
     edge_of_36()
+    reserved_on_ports()
     sound_rows()
     unsound_rows()
     row_counts()

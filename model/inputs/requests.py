@@ -8,6 +8,21 @@ from inputs.saying import hex_of, near, said_list, words_of
 from inputs.seed import rng
 from inputs.shapes import FIRST, shape_edges
 
+# The reserved rows of the request word, by the kind of the object that it names.
+RESERVED_WITH_FIGURES = (27, 21, 20)
+RESERVED_WITH_VOLTAGE = (27, 21, 8, 7)
+NOT_EXAMINED = (25, 24, 23, 22)
+
+
+def reserved_with(obj):
+    return RESERVED_WITH_VOLTAGE if isinstance(obj, (Pps, Avs)) else RESERVED_WITH_FIGURES
+
+
+def with_bits(request, places):
+    for bit in places:
+        request |= 1 << bit
+    return request
+
 
 def request_of_figures(position, operating, maximum, mismatch):
     return position << 28 | mismatch << 26 | (operating & 1023) << 10 | (maximum & 1023)
@@ -47,8 +62,12 @@ def request_for(position, obj, wild):
         word = request_of_figures(position, max(0, min(operating, 1023)), max(0, min(maximum, 1023)), mismatch)
     if rng.random() < 0.3:
         word |= rng.randrange(16) << 22
-    if wild and rng.random() < 0.12:
-        word ^= 1 << rng.choice((27, 21, 20, 8, 7))
+    if rng.random() < 0.33:
+        reserved = reserved_with(obj)
+        word = with_bits(word, rng.sample(reserved, rng.randint(1, len(reserved))))
+    # reserved with one kind, a bit of a figure or a voltage with the other
+    if wild and rng.random() < 0.07:
+        word ^= 1 << rng.choice((20, 8, 7))
     return word
 
 
@@ -61,7 +80,7 @@ def request_of(objects, wild):
 
 
 def say_answer(words, request, count=None):
-    book.say("answer %s %s" % (said_list(words, count), hex_of(request)))
+    return book.say("answer %s %s" % (said_list(words, count), hex_of(request)))
 
 
 def answer_avs_edges():
@@ -87,6 +106,7 @@ def answer_bits():
             good = request_of_figures(position, 100, 150, 0)
         else:
             good = request_of_voltage(position, 400, 20)
+        assert say_answer(words, good) == "0 0"
         for bit in range(32):
             if position in (1, 5, 6) or bit >= 19:
                 say_answer(words, good ^ (1 << bit))
@@ -94,22 +114,56 @@ def answer_bits():
         say_answer(words, word)
 
 
+def say_alike(words, request, reserved):
+    """A request, the same one with its reserved bits set, and with bits 25..22
+    too: one answer for all three."""
+    both = reserved + NOT_EXAMINED
+    answers = {say_answer(words, word) for word in (request, with_bits(request, reserved), with_bits(request, both))}
+    assert len(answers) == 1, answers
+
+
+def answer_reserved():
+    """The reserved bits of every kind, on requests accepted and refused by each
+    number; and their neighbours, which count."""
+    objects = [FIRST, Battery(400, 100, 200), Variable(400, 100, 200), Pps(1, 160, 50, 50)]
+    words = words_of(objects)
+    for position, limit in ((1, 300), (2, 200), (3, 200)):
+        for operating, maximum in ((limit, limit), (limit + 1, limit), (limit, limit + 1)):
+            say_alike(words, request_of_figures(position, operating, maximum, 0), RESERVED_WITH_FIGURES)
+        for operating in (limit, limit + 1):
+            say_alike(words, request_of_figures(position, operating, limit + 1, 1), RESERVED_WITH_FIGURES)
+    for voltage, current in ((250, 50), (800, 50), (249, 50), (801, 51), (800, 51)):
+        say_alike(words, request_of_voltage(4, voltage, current), RESERVED_WITH_VOLTAGE)
+    for position in (0, 5, 8, 15):
+        say_alike(words, request_of_figures(position, 0, 0, 0), (27, 21, 20, 8, 7))
+    # list L of "Worked by hand": its cases, 23 before 22, and above 15 V
+    of_l = built(Profile(160, 130, 5, 0, 0, 0))
+    for voltage, current in ((600, 65), (600, 66), (596, 65), (602, 10), (356, 10), (357, 127), (800, 65), (804, 66)):
+        say_alike(of_l, request_of_voltage(5, voltage, current), RESERVED_WITH_VOLTAGE)
+    say_alike(of_l, request_of_voltage(6, 600, 10), RESERVED_WITH_VOLTAGE)
+    # bit 20 is one of the voltage: 22
+    say_alike(words, request_of_voltage(4, 250, 50) | 1 << 20, RESERVED_WITH_VOLTAGE)
+    say_alike(of_l, request_of_voltage(5, 600, 65) | 1 << 20, RESERVED_WITH_VOLTAGE)
+    # bits 8 and 7 are two of the maximum figure: 25
+    words = words_of([Fixed(0, 0, 100, 127), Battery(400, 100, 127), Variable(400, 100, 127)])
+    for position in (1, 2, 3):
+        for maximum in (127, 1 << 7, 1 << 8):
+            say_alike(words, request_of_figures(position, 127, maximum, 0), RESERVED_WITH_FIGURES)
+
+
 def answer_orders():
-    """Two faults at once: 20, 21, 23, 22, 24, 25."""
+    """Two faults at once: 20, 23, 22, 24, 25."""
     words = built(Profile(100, 100, 5, 0, 1, 0))
-    say_answer(words, request_of_voltage(5, 357, 127) | 1 << 27)
     say_answer(words, request_of_voltage(5, 357, 127))
     say_answer(words, request_of_voltage(5, 356, 127))
     say_answer(words, request_of_voltage(5, 360, 127))
-    say_answer(words, request_of_voltage(6, 1000, 127) | 1 << 8)
     say_answer(words, request_of_voltage(6, 1000, 127))
     say_answer(words, request_of_voltage(6, 800, 127))
-    say_answer(words, request_of_figures(1, 1023, 1023, 0) | 1 << 20)
     say_answer(words, request_of_figures(1, 1023, 1023, 0))
     say_answer(words, request_of_figures(1, 1023, 1023, 1))
     say_answer(words, request_of_figures(1, 300, 1023, 0))
     say_answer(words, request_of_figures(1, 300, 1023, 1))
-    say_answer(words, request_of_figures(8, 300, 300, 0) | 1 << 27)
+    say_answer(words, request_of_figures(8, 1023, 1023, 0))
     for count in (0, 1, 4, 5, 6, 7, 8, 255):
         say_answer(words, request_of_voltage(5, 360, 20), count)
 
@@ -117,6 +171,7 @@ def answer_orders():
 def answer_lines():
     answer_avs_edges()
     answer_bits()
+    answer_reserved()
     answer_orders()
     for _ in range(160):
         words = built(some_profile())

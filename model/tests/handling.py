@@ -12,8 +12,12 @@ def words_built(profile):
     return list(charger.held_in(charger.build(profile).value))
 
 
+def objects_in(words):
+    return [charger.decode(word) for word in charger.held_in(words)]
+
+
 def objects_built(profile):
-    return [charger.decode(word) for word in words_built(profile)]
+    return objects_in(charger.build(profile).value)
 
 
 def fixed_currents(profile):

@@ -1,11 +1,22 @@
 """Properties of runs of the sharing calls, over seeded random calls."""
 
 import random
+from collections import Counter
 
 import charger
 from charger import Profile, Row
 from tests.expecting import expect
 from tests.handling import figures, verdict, volts
+
+# "Order", of each call but set-up: what a run can meet, whose rows are always
+# sound and whose capacity is in range.
+GIVEN = {
+    "attach": (0, 3, 33, 34),
+    "advertise": (0, 33, 35),
+    "request": (0, 20, 22, 23, 24, 25, 33, 35, 36),
+    "detach": (0, 33, 35),
+    "remaining": (0,),
+}
 
 
 class Ledger:
@@ -32,8 +43,8 @@ class Ledger:
         return max(15, -(-voltage * current * 5 // (4 * 500)))                   # 25 mV * 50 mA = 5/4 mW
 
 
-def one_run(rng, calls):
-    """History: what a run promises, whatever the calls."""
+def one_run(rng, calls, seen):
+    """History: what a run promises, whatever the calls. Counts what they gave."""
     lent = []
     for _ in range(rng.randint(1, 8)):
         junk = (rng.randrange(9), rng.randrange(300), rng.randrange(300))
@@ -42,7 +53,6 @@ def one_run(rng, calls):
     rows = list(lent)
     expect("set up", verdict(charger.set_up(capacity, rows)), (0, 0))
     ledger = Ledger([row.m for row in lent])
-    accepted = refused_36 = 0
     for _ in range(calls):
         port = rng.randint(0, len(rows) + 1) if rng.random() < 0.1 else rng.randint(1, len(rows))
         at = port - 1
@@ -70,12 +80,15 @@ def one_run(rng, calls):
             if inside and ledger.given[at] and rng.random() < 0.9:
                 position = rng.randint(1, ledger.given[at].count)
                 obj = ledger.given[at].places[position - 1]
+                reserved = (27, 21, 20) if obj >> 30 == 0 else (27, 21, 8, 7)
                 if obj >> 30 == 0:
                     word = figures(position, rng.choice((obj & 1023, rng.randint(0, obj & 1023))))
                 elif obj >> 28 == 0b1100:
                     word = volts(position, rng.randint(250, (obj >> 17 & 255) * 5), rng.randint(0, obj & 127))
                 else:
                     word = volts(position, rng.randint(90, 200) * 4, rng.randint(0, 70))
+                if rng.random() < 0.33:
+                    word |= sum(rng.randint(0, 1) << bit for bit in reserved)
             answer = charger.request(capacity, rows, port, word)
             if not inside or not ledger.given[at]:
                 expect("request", verdict(answer), (35, port) if inside else (33, 0))
@@ -86,8 +99,6 @@ def one_run(rng, calls):
                 expect("request", verdict(answer), (own, 0) if own else (36, port) if short else (0, 0))
                 if not own and not short:
                     ledger.figure[at] = figure
-                    accepted += 1
-                refused_36 += int(not own and short)
         elif call == "detach":
             answer = charger.detach(capacity, rows, port)
             expect("detach", verdict(answer), (33, 0) if not inside else (0, 0) if ledger.given[at] else (35, port))
@@ -96,19 +107,21 @@ def one_run(rng, calls):
         else:
             answer = charger.remaining(capacity, rows)
             expect("remaining", answer, (0, 0, capacity - sum(ledger.figure)))
+        seen[call, answer.number] += 1
         expect("the figures never pass the capacity", sum(ledger.figure) <= capacity)
         expect("held is the figure", [row.held for row in rows], ledger.figure)
         if answer.number:
             expect("a refusal writes no row", rows, before)
-    return accepted, refused_36
 
 
 def test_runs():
     rng = random.Random(4)
-    accepted = refused_36 = 0
+    seen = Counter()
     for _ in range(40):
-        more = one_run(rng, 150)
-        accepted += more[0]
-        refused_36 += more[1]
+        one_run(rng, 150, seen)
+    accepted, refused_36 = seen["request", 0], seen["request", 36]
     expect("requests accepted (%d)" % accepted, accepted > 500)
     expect("requests refused with 36 (%d)" % refused_36, refused_36 > 50)
+    for call, numbers in GIVEN.items():
+        expect("what %s gives" % call, sorted(number for made, number in seen if made == call), sorted(numbers))
+    expect("no 21", [call for call, number in seen if number == 21], [])

@@ -39,6 +39,8 @@ def test_checked_by_hand():
 
     on_l = lambda request: verdict(charger.answer(charger.build(L).value, request))
     expect("15.0 V at 3.25 A", on_l(volts(5, 600, 65)), (0, 0))
+    reserved = 1 << 27 | 1 << 21 | 1 << 8 | 1 << 7
+    expect("15.0 V at 3.25 A, bits 27, 21, 8 and 7 set", on_l(volts(5, 600, 65) | reserved), (0, 0))
     expect("15.0 V at 3.30 A", on_l(volts(5, 600, 66)), (24, 0))
     expect("14.9 V at 3.25 A", on_l(volts(5, 596, 65)), (24, 0))
     expect("14.9 V at 3.00 A", on_l(volts(5, 596, 60)), (0, 0))
@@ -112,6 +114,29 @@ def test_orders():
     lent = [Row(100, 2, 9, 9, 9), Row(14, 0, 0, 0, 0)]
     expect("row by row 31, 4", verdict(charger.set_up(30, lent)), (4, 1))
     expect("rows are not written", lent, [Row(100, 2, 9, 9, 9), Row(14, 0, 0, 0, 0)])
+
+
+def test_order_of_a_request():
+    """20, 23, 22, 24, 25: all that comes later is at fault too, and each is the
+    same with the reserved bits set."""
+    words = charger.build(Profile(100, 100, 5, 0, 1, 0)).value
+    rows = [Row(100, 1, 5, 100, 15)]
+    with_figures, with_voltage = 1 << 27 | 1 << 21 | 1 << 20, 1 << 27 | 1 << 21 | 1 << 8 | 1 << 7
+    for what, number, word, reserved in (
+        ("no position, and figures", 20, figures(8, 1023), with_figures),
+        ("no position, and a voltage", 20, volts(8, 357, 127), with_voltage),
+        ("AVS, 23 before 22 and 24", 23, volts(5, 357, 127), with_voltage),
+        ("AVS, 22 before 24", 22, volts(5, 356, 127), with_voltage),
+        ("AVS, 24", 24, volts(5, 360, 127), with_voltage),
+        ("PPS, 22 before 24", 22, volts(6, 249, 127), with_voltage),
+        ("PPS, 24", 24, volts(6, 250, 127), with_voltage),
+        ("fixed, 24 before 25", 24, figures(1, 301, 301), with_figures),
+        ("fixed, 25", 25, figures(1, 300, 301), with_figures),
+        ("fixed, bit 26 is for 25 alone", 24, figures(1, 301, 301, 1), with_figures),
+    ):
+        for asked in (word, word | reserved):
+            expect(what, verdict(charger.answer(words, asked)), (number, 0))
+            expect(what + ", before 36", verdict(charger.request(15, rows, 1, asked)), (number, 0))
 
 
 def test_objects_of_no_kind():

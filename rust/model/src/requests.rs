@@ -10,7 +10,7 @@ const AVS_9V: u16 = 360;
 const AVS_15V: u16 = 600;
 const AVS_20V: u16 = 800;
 
-// "A reserved bit is ignored, set or clear" (T-01): 27 and 21 are in no field below, 20 is in the
+// "A reserved bit of a request is ignored" (T-01): 27 and 21 are in no field below, 20 is in the
 // voltage alone, 8 and 7 in the maximum figure alone. Only fields are judged, so none is cleared.
 
 pub fn position(word: u32) -> u8 {
