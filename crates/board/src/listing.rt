@@ -62,8 +62,8 @@ pub extern "C" fn arin_write(list: FlatObjects) -> Listing
     flat::flat_write(list)
 }
 
-// Whether a request word may be accepted on the list that was advertised. Refusals: those of `arin_shape`, with their places; then 20, 21,
-// 23, 22, 24, 25, with place 0.
+// Whether a request word may be accepted on the list that was advertised. Reserved bits of the word are ignored. Refusals: those of
+// `arin_shape`, with their places; then 20, 23, 22, 24, 25, with place 0.
 #[no_mangle]
 pub extern "C" fn arin_answer(list: Words, word: u32) -> Verdict
     ensures { λ r. ⌜ ArinAnswers list word r ⌝ }

@@ -4,6 +4,7 @@ pub mod FlatRefusals
 pub mod SharingRefusals
 pub mod DecidingRefusals
 pub mod ManyRows
+pub mod Withdrawn
 pub mod NoKindOrder
 pub mod NoKindCases
 pub mod KindsAgree
@@ -15,6 +16,7 @@ pub mod PowerRules
 pub mod RuleLists
 pub mod AcceptedPower
 pub mod RequestNumbers
+pub mod Ignored
 pub mod At15V
 pub mod MarkedCases
 pub mod SoundRows

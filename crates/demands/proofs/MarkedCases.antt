@@ -15,7 +15,7 @@ use Rattle.rules.specs.Currents.{builtCurrent, progCurrent}
 use Rattle.rules.specs.Building.{objectFor, builtOf}
 use Rattle.lines.specs.Text.{hexWord}
 use Rattle.printed.specs.Printed.{printedOf}
-use Rattle.requests.specs.Limits.{bitSet, avsTop, avsLimit}
+use Rattle.requests.specs.Limits.{avsTop, avsLimit}
 use Rattle.requests.specs.Answering.{answerOf}
 use Rattle.ports.specs.Rows.{together, besides, emptied, presentFor, offering, holding}
 use Rattle.ports.specs.Soundness.{soundRow}
@@ -25,5 +25,5 @@ use Rattle.ports.specs.Lending.{setUpAnswer, setUpRows, attachAnswer, attachRow
 use Rattle.demands.specs.MarkedCases.{MarkedCases}
 
 pub marked-cases : MarkedCases
-unfolding printedOf hexWord firstOf eachPlace bits decodeOf reservedSet outOfBounds over100W mayFollow isFixed5V hasFixed avsDiffers bitSet avsTop avsLimit answerOf sevenTo downOf upOf wordOf defaultOf baseSlots progSlots builtCurrent progCurrent objectFor builtOf together besides emptied presentFor offering holding soundRow rulePps ruleProfile powerOf heldFor setUpAnswer setUpRows attachAnswer attachRows advertiseAnswer advertiseRows requestAnswer requestRows
+unfolding printedOf hexWord firstOf eachPlace bits decodeOf reservedSet outOfBounds over100W mayFollow isFixed5V hasFixed avsDiffers avsTop avsLimit answerOf sevenTo downOf upOf wordOf defaultOf baseSlots progSlots builtCurrent progCurrent objectFor builtOf together besides emptied presentFor offering holding soundRow rulePps ruleProfile powerOf heldFor setUpAnswer setUpRows attachAnswer attachRows advertiseAnswer advertiseRows requestAnswer requestRows
 marked-cases = refl

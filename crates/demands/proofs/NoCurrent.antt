@@ -23,7 +23,6 @@ use Rattle.lists.specs.declared.Words.{Words}
 use Rattle.lists.specs.Shape.{isFixed5V, shapeRefusals}
 use Rattle.lists.proofs.Shapes.{count-low}
 use Rattle.requests.specs.Taking.{positionOf}
-use Rattle.requests.specs.Limits.{bitSet}
 use Rattle.requests.specs.Answering.{namedRefusals, answerRefusals, answerOf}
 use Rattle.requests.proofs.Answers.{position-good, answer-verdict}
 use Rattle.ports.specs.Requests.{powerIn, powerOf, heldFor}
@@ -38,11 +37,11 @@ record AsksNothing (d : Decoded) : Type 0 where
   no-power : (present : ℕ) → powerIn d present noCurrent ≡ 0
 
 asks-nothing : (d : Decoded) → is5V d ≡ true → AsksNothing d
-unfolding bits bitSet upOf
+unfolding bits upOf
 asks-nothing (Known (Fixed f p v a)) e =
     let low : not (leb 0 (a .0 * 10)) ≡ false = ap not (le-leb 0 (a .0 * 10) (omega arith)) in
     record {
-      passes = (refl, (refl, (refl, (low, (ap (λ (b : Bool). b && true) low, tt)))));
+      passes = (refl, (refl, (low, (ap (λ (b : Bool). b && true) low, tt))));
       no-power = λ present. ap (λ (n : ℕ). upOf n 500000) (mul-zero (mv50 v));
     }
 asks-nothing (Known (Battery x m p)) e = absurd (false≢true e)

@@ -1,14 +1,14 @@
 -- Proves the claims of specs/RuleLists.antt on the list.
 -- Assumes nothing.
 use mathlib.Core.Path.{_≡_, refl, sym, ap, _∙_, subst}
-use mathlib.Core.Bool.{Bool, true, false, _&&_, and-eq-true-iff}
+use mathlib.Core.Bool.{Bool, true, false, _&&_, and-eq-true-iff, true≢false}
 use mathlib.Core.List.{List, [], _∷_, _++_}
 use Prim.Native.Nat.{ℕ}
 use lib.Dec.{leb, eqb}
 use borrow.Author.Tests.{leb-true, eqb-true}
 use Rattle.verdicts.specs.declared.Verdict.{Verdict}
 use Rattle.verdicts.specs.Refusals.{Refusal, refusal, firstOf, verdict, success, verdictOf, NoneApply}
-use Rattle.verdicts.proofs.First.{onward, all-missed}
+use Rattle.verdicts.proofs.First.{onward, all-missed, isNumber}
 use Rattle.objects.specs.declared.Decoded.{Decoded}
 use Rattle.objects.specs.declared.Decoded.the-variants.{Known, NotAllowed}
 use Rattle.lists.specs.Shape.{shapeRefusals}
@@ -26,7 +26,7 @@ use Rattle.demands.specs.RuleLists.{OwnRefusal, RuleListPasses, RuleList
 -- ---- requests that are refused by their own numbers
 
 abbrev own : ℕ → ℕ → Bool
-own n p = (leb 20 n && leb n 25) && eqb p 0
+own n p = (leb 20 n && leb n 25) && (isNumber n && eqb p 0)
 
 abbrev allOwn : List Refusal → Bool
 allOwn [] = true
@@ -34,9 +34,14 @@ allOwn (refusal b n p ∷ rs) = own n p && allOwn rs
 
 own-row : (n p : ℕ) → own n p ≡ true → OwnRefusal (verdict n p)
 own-row n p t =
-    let a = and-eq-true-iff (leb 20 n && leb n 25) (eqb p 0) .0 t in
+    let a = and-eq-true-iff (leb 20 n && leb n 25) (isNumber n && eqb p 0) .0 t in
     let b = and-eq-true-iff (leb 20 n) (leb n 25) .0 (a .0) in
-    record { from-20 = leb-true 20 n (b .0); to-25 = leb-true n 25 (b .1); place-0 = eqb-true p 0 (a .1) }
+    let c = and-eq-true-iff (isNumber n) (eqb p 0) .0 (a .1) in record {
+      from-20 = leb-true 20 n (b .0);
+      to-25 = leb-true n 25 (b .1);
+      not-21 = λ e. true≢false (sym (c .0) ∙ ap isNumber e);
+      place-0 = eqb-true p 0 (c .1);
+    }
 
 own-rows : (rs : List Refusal) → allOwn rs ≡ true → (verdictOf rs .number ≡ 0 → ⊥) → OwnRefusal (verdictOf rs)
 unfolding firstOf

@@ -21,7 +21,7 @@ use Rattle.rules.specs.Profiles.{halfWatts, buildRefusals}
 use Rattle.rules.specs.Tables.{baseSlots, progSlots}
 use Rattle.rules.specs.Currents.{builtCurrent, progCurrent}
 use Rattle.rules.specs.Building.{objectFor, builtOf}
-use Rattle.requests.specs.Limits.{bitSet, avsTop, avsLimit}
+use Rattle.requests.specs.Limits.{avsTop, avsLimit}
 use Rattle.flat.specs.declared.FlatObjects.{FlatObjects}
 use Rattle.ports.specs.declared.Row.{Row}
 use Rattle.ports.specs.Rows.{portRow, together, besides, emptied, presentFor, offering, holding}
@@ -56,7 +56,7 @@ unfolding firstOf eachPlace bits wordOf sevenTo downOf upOf baseSlots progSlots 
 attach-then = (refl, refl)
 
 request-then : SharesRequest one-attached 200 1 (fixed 4 325) success one-holds
-unfolding firstOf eachPlace bits decodeOf reservedSet outOfBounds over100W mayFollow isFixed5V hasFixed avsDiffers bitSet avsTop avsLimit sevenTo downOf upOf wordOf baseSlots progSlots builtCurrent progCurrent objectFor builtOf together besides holding soundRow rulePps ruleProfile powerOf heldFor requestAnswer requestRows
+unfolding firstOf eachPlace bits decodeOf reservedSet outOfBounds over100W mayFollow isFixed5V hasFixed avsDiffers avsTop avsLimit sevenTo downOf upOf wordOf baseSlots progSlots builtCurrent progCurrent objectFor builtOf together besides holding soundRow rulePps ruleProfile powerOf heldFor requestAnswer requestRows
 request-then = (refl, refl)
 
 set-up-alone : Run 200 none-attached [] none-attached

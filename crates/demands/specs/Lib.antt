@@ -12,6 +12,7 @@ pub mod FlatRefusals
 pub mod SharingRefusals
 pub mod DecidingRefusals
 pub mod ManyRows
+pub mod Withdrawn
 pub mod NoKindOrder
 pub mod NoKindCases
 -- Demand 2, words, lists and rules: what is read writes back, what is built passes, and each limit is where the statement has it
@@ -23,6 +24,7 @@ pub mod FlatUnread
 pub mod PowerRules
 pub mod RuleLists
 pub mod RequestNumbers
+pub mod Ignored
 pub mod At15V
 pub mod MarkedCases
 -- Demand 3, shared ports over whole runs: what holds after any calls, good or bad

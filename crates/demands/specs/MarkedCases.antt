@@ -98,6 +98,8 @@ table =
     ∷ case (asked 5 600 65) (judged success)
     ∷ case (asked 5 600 66) (judged (verdict 24 0))
     ∷ case (asked 5 596 65) (judged (verdict 24 0))
+    -- 15.0 V at 3.25 A with the reserved bits 27, 21, 8 and 7 set
+    ∷ case (asked 5 600 (65 + 2 ^ 27 + 2 ^ 21 + 2 ^ 8 + 2 ^ 7)) (judged success)
     -- on L: the figure 602 is no whole 100 mV (23); 8.9 V is below the range (22); there is no position 6 (20)
     ∷ case (asked 5 602 65) (judged (verdict 23 0))
     ∷ case (asked 5 356 65) (judged (verdict 22 0))

@@ -26,10 +26,11 @@ RuleListNotEmpty = (y : Row) → Offerable y → 1 ≤ ruleList y .count
 abbrev pub RuleListTo7 : Type 0
 RuleListTo7 = (y : Row) → Offerable y → ruleList y .count ≤ 7
 
--- the refusals that are a request's own are 20 to 25, at place 0
+-- the refusals that are a request's own are 20 and 22 to 25, at place 0
 pub record OwnRefusal (v : Verdict) : Type 0 where
   pub from-20 : 20 ≤ v .number
   pub to-25 : v .number ≤ 25
+  pub not-21 : v .number ≡ 21 → ⊥
   pub place-0 : v .place ≡ 0
 
 -- a request on it is never refused for the list's shape

@@ -8,6 +8,7 @@ pub mod Judged
 pub mod ByValue
 pub mod Requesting
 pub mod Asking
+pub mod Ignoring
 pub mod Offering
 pub mod Standings
 pub mod Said

@@ -208,8 +208,8 @@ fn hold(standing: Standing, row: Row, capacity: HalfWatts, port: u8, held: HalfW
 
 // A request judged on the list of the row's present power. On success the row holds what the request needs: voltage times operating
 // current, rounded up to a half watt, at least 15 half watts, and for PPS at most its present power. Refusals: that of the standing (30, 32
-// or 37), 37 for the sum, 33, 35 (the port), then 20, 21, 23, 22, 24, 25, then 36 (the port). For a row that no list can be built for, 10
-// stands in the place of 20.
+// or 37), 37 for the sum, 33, 35 (the port), then 20, 23, 22, 24, 25, then 36 (the port). For a row that no list can be built for, 10 stands
+// in the place of 20.
 pub fn request(standing: Standing, row: Row, capacity: HalfWatts, port: u8, word: u32) -> Change
     ensures { λ r. ⌜ Requests standing row capacity port word r ⌝ }
 {

@@ -15,19 +15,18 @@ use Rattle.lists.specs.declared.Words.{Words}
 use Rattle.lists.specs.Shape.{shapeRefusals, shapeOf}
 use Rattle.lists.specs.Reading.{objectOf}
 use Rattle.requests.specs.Taking.{positionOf, mismatchOf, requestOf}
-use Rattle.requests.specs.Limits.{reservedInRequest, voltsOf, operatingOf, advertisedAt, inRange, wholeStep, maximumTooLarge}
+use Rattle.requests.specs.Limits.{voltsOf, operatingOf, advertisedAt, inRange, wholeStep, maximumTooLarge}
 use Rattle.requests.specs.Judging.{refusalsOf}
 use Rattle.requests.specs.Answering.{namedBy, namedRefusals, answerRefusals, answerOf}
 use Rattle.requests.proofs.Answers.{answer-numbered, names-object}
 
--- an accepted request names an object of a list whose shape passes, sets no reserved bit, and keeps to the object's limits
+-- an accepted request names an object of a list whose shape passes and keeps to the object's limits
 pub record Accepted (l : Words) (w : ℕ) : Type 0 where
   pub shape-passes : shapeOf l ≡ success
   pub from-1 : 1 ≤ positionOf w
   pub to-count : positionOf w ≤ l .count
   pub object : Object
   pub names : namedBy l w ≡ Known object
-  pub none-reserved : reservedInRequest object w ≡ false
   pub whole : wholeStep object (voltsOf (requestOf object w)) ≡ true
   pub in-range : inRange object (voltsOf (requestOf object w)) ≡ true
   pub at-most : operatingOf (requestOf object w) ≤ advertisedAt object (voltsOf (requestOf object w))
@@ -61,9 +60,8 @@ module _ (l : Words) (w : ℕ) (e : answerOf l w ≡ success) where
         to-count = high;
         object = o;
         names = n;
-        none-reserved = own .0;
-        whole = not-false _ (own .1 .0);
-        in-range = not-false _ (own .1 .1 .0);
-        at-most = leb-true _ _ (not-false _ (own .1 .1 .1 .0));
-        maximum-allowed = own .1 .1 .1 .1 .0;
+        whole = not-false _ (own .0);
+        in-range = not-false _ (own .1 .0);
+        at-most = leb-true _ _ (not-false _ (own .1 .1 .0));
+        maximum-allowed = own .1 .1 .1 .0;
       }

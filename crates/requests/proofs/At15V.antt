@@ -20,10 +20,10 @@ use Rattle.objects.specs.declared.Decoded.the-variants.{Known}
 use Rattle.lists.specs.declared.Words.{Words}
 use Rattle.lists.specs.Shape.{shapeOf}
 use Rattle.requests.specs.Taking.{positionOf, mismatchOf, avsVolts, currentIn}
-use Rattle.requests.specs.Limits.{reservedInRequest, avsTop, avsLimit}
+use Rattle.requests.specs.Limits.{avsTop, avsLimit}
 use Rattle.requests.specs.Answering.{namedBy, answerOf}
-use Rattle.requests.specs.Judging.{limitsOf}
-use Rattle.requests.proofs.Limits.{unreserved, over, allowed, no-maximum}
+use Rattle.requests.specs.Judging.{judgedOf}
+use Rattle.requests.proofs.Limits.{over, allowed, no-maximum}
 use Rattle.requests.proofs.AvsLimits.{ends-at-15-V, ends-at-20-V, limit-below, limit-above, limit-at}
 use Rattle.requests.proofs.Answers.{position-good, judged}
 use Rattle.requests.specs.At15V.{AsksAvs, AllowsUpTo}
@@ -41,11 +41,10 @@ decides v asked limit accepts refuses = ((λ e. go (leb asked limit) refl e), ac
 
 module _ (l : Words) (w : ℕ) (low high : Ma10) (asks : AsksAvs l w low high) where
   -- the answer is that of the limits of the object
-  by-limits : answerOf l w ≡ limitsOf (Avs (asks .peak) low high) w
+  by-limits : answerOf l w ≡ judgedOf (Avs (asks .peak) low high) w
   by-limits =
       judged l w (ap (λ (v : Verdict). v .number) (asks .shape-passes)) (Avs (asks .peak) low high)
       (position-good (l .count) (positionOf w) (asks .from-1) (asks .to-count)) (asks .names)
-      ∙ unreserved (Avs (asks .peak) low high) w (asks .none-reserved)
 
   module _ (whole : mv25 (avsVolts w) % 100 ≡ 0) (from : 9000 ≤ mv25 (avsVolts w)) (to : mv25 (avsVolts w) ≤ avsTop high)
       (limit : ℕ) (is : avsLimit (mv25 (avsVolts w)) (ma10 low) (ma10 high) ≡ limit) where

@@ -16,7 +16,7 @@ use Rattle.objects.specs.Bits.{bits}
 use Rattle.objects.specs.declared.Object.the-variants.{Avs}
 use Rattle.requests.specs.Taking.{mismatchOf}
 use Rattle.requests.specs.Limits.{avsTop, avsLimit}
-use Rattle.requests.specs.Judging.{limitsOf}
+use Rattle.requests.specs.Judging.{judgedOf}
 use Rattle.requests.proofs.Limits.{not-whole, outside, over, allowed, no-maximum}
 
 -- 100 mV is four steps of 25 mV
@@ -56,18 +56,18 @@ module _ (mv first second : ℕ) where
 
 -- v and i are the figures of the voltage and of the current, as the code has them
 module _ (p : ℕ) (low high : Ma10) (w v : ℕ) (ev : v ≡ bits w 20 9) where
-  pub avs-not-whole : (v % 4 ≡ 0 → ⊥) → limitsOf (Avs p low high) w ≡ verdict 23 0
+  pub avs-not-whole : (v % 4 ≡ 0 → ⊥) → judgedOf (Avs p low high) w ≡ verdict 23 0
   avs-not-whole f = not-whole (Avs p low high) w (not-whole-100 (bits w 20 9) (λ e. f (ap (λ (n : ℕ). n % 4) ev ∙ e)))
 
   module _ (whole : v % 4 ≡ 0) where
     avs-whole : not (eqb (bits w 20 9 * 25 % 100) 0) ≡ false
     avs-whole = whole-100 (bits w 20 9) (ap (λ (n : ℕ). n % 4) (sym ev) ∙ whole)
 
-    pub avs-under : v < 360 → limitsOf (Avs p low high) w ≡ verdict 22 0
+    pub avs-under : v < 360 → judgedOf (Avs p low high) w ≡ verdict 22 0
     avs-under h = outside (Avs p low high) w avs-whole (too-low 9000 (avsTop high) (bits w 20 9 * 25) (omega arith))
 
     module _ (from : 360 ≤ v) (t : ℕ) (top : t * 25 ≡ avsTop high) where
-      pub avs-beyond : t < v → limitsOf (Avs p low high) w ≡ verdict 22 0
+      pub avs-beyond : t < v → judgedOf (Avs p low high) w ≡ verdict 22 0
       avs-beyond h = outside (Avs p low high) w avs-whole (too-high 9000 (avsTop high) (bits w 20 9 * 25) (omega arith) (omega arith))
 
       module _ (to : v ≤ t) (x i : ℕ) (limit : x * 10 ≡ avsLimit (v * 25) (ma10 low) (ma10 high)) (ei : i ≡ bits w 6 0) where
@@ -77,10 +77,10 @@ module _ (p : ℕ) (low high : Ma10) (w v : ℕ) (ev : v ≡ bits w 20 9) where
         avs-limit : x * 10 ≡ avsLimit (bits w 20 9 * 25) (ma10 low) (ma10 high)
         avs-limit = limit ∙ ap (λ (n : ℕ). avsLimit (n * 25) (ma10 low) (ma10 high)) ev
 
-        pub avs-over : x < i * 5 → limitsOf (Avs p low high) w ≡ verdict 24 0
+        pub avs-over : x < i * 5 → judgedOf (Avs p low high) w ≡ verdict 24 0
         avs-over h = over (Avs p low high) w avs-whole avs-inside (ap not (lt-leb (bits w 6 0 * 50) _ (omega (arith, avs-limit))))
 
-        pub avs-allowed : i * 5 ≤ x → limitsOf (Avs p low high) w ≡ success
+        pub avs-allowed : i * 5 ≤ x → judgedOf (Avs p low high) w ≡ success
         avs-allowed h =
             allowed (Avs p low high) w avs-whole avs-inside (ap not (le-leb (bits w 6 0 * 50) _ (omega (arith, avs-limit))))
             (no-maximum (avsLimit (bits w 20 9 * 25) (ma10 low) (ma10 high)) (mismatchOf w))

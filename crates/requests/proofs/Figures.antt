@@ -12,7 +12,7 @@ use Rattle.steps.specs.declared.Mw250.{Mw250}
 use Rattle.steps.proofs.StepTests.{past}
 use Rattle.objects.specs.declared.Object.the-variants.{Fixed, Battery, Variable}
 use Rattle.requests.specs.Taking.{operatingIn, maximumIn}
-use Rattle.requests.specs.Judging.{limitsOf, figureRows, figuresOf}
+use Rattle.requests.specs.Judging.{judgedOf, figureRows, figuresOf}
 
 -- figures of one step are compared as the measures they stand for
 figures-in : (step advertised w : ℕ) → 0 < step
@@ -23,14 +23,14 @@ figures-in step advertised w pos =
     ap₂ (λ (x y : Bool). verdictOf (figureRows x y w))
     (past step advertised (operatingIn w) pos) (past step advertised (maximumIn w) pos)
 
-pub fixed-limits : (f p w : ℕ) (v : Mv50) (a : Ma10) → figuresOf (a .0) w ≡ limitsOf (Fixed f p v a) w
-unfolding limitsOf firstOf
+pub fixed-limits : (f p w : ℕ) (v : Mv50) (a : Ma10) → figuresOf (a .0) w ≡ judgedOf (Fixed f p v a) w
+unfolding judgedOf firstOf
 fixed-limits f p w v a = figures-in 10 (a .0) w (omega arith)
 
-pub battery-limits : (w : ℕ) (x m : Mv50) (p : Mw250) → figuresOf (p .0) w ≡ limitsOf (Battery x m p) w
-unfolding limitsOf firstOf
+pub battery-limits : (w : ℕ) (x m : Mv50) (p : Mw250) → figuresOf (p .0) w ≡ judgedOf (Battery x m p) w
+unfolding judgedOf firstOf
 battery-limits w x m p = figures-in 250 (p .0) w (omega arith)
 
-pub variable-limits : (w : ℕ) (x m : Mv50) (a : Ma10) → figuresOf (a .0) w ≡ limitsOf (Variable x m a) w
-unfolding limitsOf firstOf
+pub variable-limits : (w : ℕ) (x m : Mv50) (a : Ma10) → figuresOf (a .0) w ≡ judgedOf (Variable x m a) w
+unfolding judgedOf firstOf
 variable-limits w x m a = figures-in 10 (a .0) w (omega arith)

@@ -1,4 +1,3 @@
-pub mod Reserved
 pub mod Limits
 pub mod Figures
 pub mod PpsLimits
@@ -8,3 +7,4 @@ pub mod Answers
 pub mod Accepted
 pub mod At15V
 pub mod Unread
+pub mod Ignoring

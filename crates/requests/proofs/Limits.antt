@@ -10,34 +10,26 @@ use Rattle.verdicts.specs.Refusals.{firstOf, verdict, success}
 use Rattle.verdicts.proofs.First.{hit, miss}
 use Rattle.objects.specs.declared.Object.{Object}
 use Rattle.requests.specs.Taking.{mismatchOf, requestOf}
-use Rattle.requests.specs.Limits.{reservedInRequest, voltageNotWhole, voltageOutside, operatingTooLarge, maximumTooLarge}
-use Rattle.requests.specs.Judging.{limitsOf, judgedOf}
+use Rattle.requests.specs.Limits.{voltageNotWhole, voltageOutside, operatingTooLarge, maximumTooLarge}
+use Rattle.requests.specs.Judging.{judgedOf}
 
 module _ (o : Object) (w : ℕ) where
-  pub reserved : reservedInRequest o w ≡ true → judgedOf o w ≡ verdict 21 0
+  pub not-whole : voltageNotWhole o (requestOf o w) ≡ true → judgedOf o w ≡ verdict 23 0
   unfolding judgedOf
-  reserved e = hit verdict success 21 0 _ e
-
-  pub unreserved : reservedInRequest o w ≡ false → judgedOf o w ≡ limitsOf o w
-  unfolding judgedOf limitsOf
-  unreserved e = miss verdict success 21 0 _ e
-
-  pub not-whole : voltageNotWhole o (requestOf o w) ≡ true → limitsOf o w ≡ verdict 23 0
-  unfolding limitsOf
   not-whole e = hit verdict success 23 0 _ e
 
   module _ (whole : voltageNotWhole o (requestOf o w) ≡ false) where
-    pub outside : voltageOutside o (requestOf o w) ≡ true → limitsOf o w ≡ verdict 22 0
-    unfolding limitsOf
+    pub outside : voltageOutside o (requestOf o w) ≡ true → judgedOf o w ≡ verdict 22 0
+    unfolding judgedOf
     outside e = miss verdict success 23 0 _ whole ∙ hit verdict success 22 0 _ e
 
     module _ (inside : voltageOutside o (requestOf o w) ≡ false) where
-      pub over : operatingTooLarge o (requestOf o w) ≡ true → limitsOf o w ≡ verdict 24 0
-      unfolding limitsOf
+      pub over : operatingTooLarge o (requestOf o w) ≡ true → judgedOf o w ≡ verdict 24 0
+      unfolding judgedOf
       over e = miss verdict success 23 0 _ whole ∙ miss verdict success 22 0 _ inside ∙ hit verdict success 24 0 _ e
 
-      pub allowed : operatingTooLarge o (requestOf o w) ≡ false → maximumTooLarge o (mismatchOf w) (requestOf o w) ≡ false → limitsOf o w ≡ success
-      unfolding limitsOf firstOf
+      pub allowed : operatingTooLarge o (requestOf o w) ≡ false → maximumTooLarge o (mismatchOf w) (requestOf o w) ≡ false → judgedOf o w ≡ success
+      unfolding judgedOf firstOf
       allowed e f = rw (whole, inside, e, f)
 
 -- PPS and AVS requests have no maximum figure

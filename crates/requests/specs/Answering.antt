@@ -31,7 +31,7 @@ namedRefusals NotAllowed w = []
 abbrev pub objectRefusals : Words → ℕ → List Refusal
 objectRefusals l w = namedRefusals (namedBy l w) w
 
--- "as shape; then 20, 21, 23, 22, 24, 25". The place of 20 is 0 too.
+-- "as shape; then 20, 23, 22, 24, 25". The place of 20 is 0 too.
 abbrev pub answerRefusals : Words → ℕ → List Refusal
 answerRefusals l w = shapeRefusals l ++ (refusal (badPosition (l .count) (positionOf w)) 20 0 ∷ objectRefusals l w)
 

@@ -8,28 +8,21 @@ use Rattle.verdicts.specs.declared.Verdict.{Verdict}
 use Rattle.verdicts.specs.Refusals.{Refusal, refusal, verdictOf}
 use Rattle.objects.specs.declared.Object.{Object}
 use Rattle.requests.specs.Taking.{mismatchOf, operatingIn, maximumIn, requestOf}
-use Rattle.requests.specs.Limits.{reservedInRequest, voltageNotWhole, voltageOutside, operatingTooLarge, maximumTooLarge}
+use Rattle.requests.specs.Limits.{voltageNotWhole, voltageOutside, operatingTooLarge, maximumTooLarge}
 
--- "23, 22, 24, 25": the limits of the object's kind
-abbrev pub limitRefusals : Object → ℕ → List Refusal
-limitRefusals o w =
+-- "23, 22, 24, 25". The place is 0 for all of these.
+abbrev pub refusalsOf : Object → ℕ → List Refusal
+refusalsOf o w =
     refusal (voltageNotWhole o (requestOf o w)) 23 0
     ∷ refusal (voltageOutside o (requestOf o w)) 22 0
     ∷ refusal (operatingTooLarge o (requestOf o w)) 24 0
     ∷ refusal (maximumTooLarge o (mismatchOf w) (requestOf o w)) 25 0
     ∷ []
 
--- "21, 23, 22, 24, 25". The place is 0 for all of these.
-abbrev pub refusalsOf : Object → ℕ → List Refusal
-refusalsOf o w = refusal (reservedInRequest o w) 21 0 ∷ limitRefusals o w
-
 unfoldable pub judgedOf : Object → ℕ → Verdict
 judgedOf o w = verdictOf (refusalsOf o w)
 
 -- ---- parts of `judgedOf`, named for the functions that work them out
-
-unfoldable pub limitsOf : Object → ℕ → Verdict
-limitsOf o w = verdictOf (limitRefusals o w)
 
 -- "24, 25", where each figure is larger than the advertised one or not; the maximum figure may be, where bit 26 is set
 abbrev pub figureRows : Bool → Bool → ℕ → List Refusal

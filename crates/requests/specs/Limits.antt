@@ -1,45 +1,15 @@
 -- What a request may ask of an object (STATEMENT, "Answering a request"), in millivolts, milliamperes and milliwatts.
 -- Assumes nothing.
 use mathlib.Core.Bool.{Bool, true, not, _&&_, cond}
-use mathlib.Core.List.{List, [], _∷_}
 use Prim.Native.Nat.{ℕ, _%_, max}
 use lib.Dec.{leb, ltb, eqb}
 use Rattle.steps.specs.Ranges.{within}
 use Rattle.steps.specs.Units.{mv20, mv25, mv100, ma10, ma50, mw250}
 use Rattle.steps.specs.declared.Ma10.{Ma10}
-use Rattle.objects.specs.Decode.{clear}
 use Rattle.objects.specs.declared.Object.{Object}
 use Rattle.objects.specs.declared.Object.the-variants.{Fixed, Battery, Variable, Pps, Avs}
 use Rattle.requests.specs.declared.Request.{Request}
 use Rattle.requests.specs.declared.Request.the-variants as asked
-
--- ---- 21: "a reserved bit of the request is set". Bits 25..22 are "not examined"
-
--- fixed, battery, variable: the rows "reserved" are 27, 21 and 20
-abbrev pub besideFigures : List ℕ
-besideFigures = 27 ∷ 21 ∷ 20 ∷ []
-
--- PPS and AVS: 27, 21 and 8..7
-abbrev pub besideVoltage : List ℕ
-besideVoltage = 27 ∷ 21 ∷ 8 ∷ 7 ∷ []
-
-abbrev pub reservedBits : Object → List ℕ
-reservedBits (Fixed f p v a) = besideFigures
-reservedBits (Battery x m p) = besideFigures
-reservedBits (Variable x m a) = besideFigures
-reservedBits (Pps l x m a) = besideVoltage
-reservedBits (Avs p l h) = besideVoltage
-
-abbrev pub allClear : ℕ → List ℕ → Bool
-allClear w [] = true
-allClear w (b ∷ bs) = clear w b b && allClear w bs
-
--- one of these bits is set in a word
-unfoldable pub bitSet : ℕ → List ℕ → Bool
-bitSet w bs = not (allClear w bs)
-
-abbrev pub reservedInRequest : Object → ℕ → Bool
-reservedInRequest o w = bitSet w (reservedBits o)
 
 -- ---- what is asked for
 

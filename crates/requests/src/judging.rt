@@ -2,8 +2,8 @@
 ghost use mathlib.Core.Path.{_≡_};
 ghost use Rattle.verdicts.specs.Refusals.{verdict, verdictOf};
 ghost use Rattle.steps.specs.Units.{mv25, ma10};
-ghost use Rattle.requests.specs.Limits.{besideFigures, besideVoltage, bitSet, reservedInRequest, avsTop, avsLimit};
-ghost use Rattle.requests.specs.Judging.{figureRows, figuresOf, limitsOf};
+ghost use Rattle.requests.specs.Limits.{avsTop, avsLimit};
+ghost use Rattle.requests.specs.Judging.{figureRows, figuresOf, judgedOf};
 ghost use Rattle.requests.specs.Promises.{JudgesRequest};
 use crate::taking::avs_volts;
 use crate::taking::current;
@@ -26,47 +26,6 @@ pub(crate) fn placeless(number: u8) -> Verdict
     ensures { λ r. ⌜ r ≡ verdict number 0 ⌝ }
 {
     Verdict { number, place: 0 }
-}
-
-// A reserved bit beside two figures: 27, 21 or 20.
-fn set_beside_figures(word: u32) -> bool
-    ensures { λ r. ⌜ r ≡ bitSet word besideFigures ⌝ }
-{
-    if (word >> 27) & 0x1 != 0 {
-        return true;
-    }
-    if (word >> 21) & 0x1 != 0 {
-        return true;
-    }
-    (word >> 20) & 0x1 != 0
-}
-
-// A reserved bit beside a voltage and a current: 27, 21, 8 or 7.
-fn set_beside_voltage(word: u32) -> bool
-    ensures { λ r. ⌜ r ≡ bitSet word besideVoltage ⌝ }
-{
-    if (word >> 27) & 0x1 != 0 {
-        return true;
-    }
-    if (word >> 21) & 0x1 != 0 {
-        return true;
-    }
-    if (word >> 8) & 0x1 != 0 {
-        return true;
-    }
-    (word >> 7) & 0x1 != 0
-}
-
-fn reserved_bit_set(o: Object, word: u32) -> bool
-    ensures { λ r. ⌜ r ≡ reservedInRequest o word ⌝ }
-{
-    match o {
-        Object::Fixed { .. } => set_beside_figures(word),
-        Object::Battery { .. } => set_beside_figures(word),
-        Object::Variable { .. } => set_beside_figures(word),
-        Object::Pps { .. } => set_beside_voltage(word),
-        Object::Avs { .. } => set_beside_voltage(word),
-    }
 }
 
 // 24 comes before 25, and there is no 25 where the sink says that it needs more than is offered (bit 26).
@@ -105,7 +64,7 @@ fn judge_power(advertised: Mw250, word: u32) -> Verdict
 
 // A step of 100 mV is five of 20 mV.
 fn judge_pps(min: Mv100, max: Mv100, limit: Ma50, word: u32) -> Verdict
-    ensures { λ r. ⌜ r ≡ limitsOf (Object.Pps 0 max min limit) word ⌝ }
+    ensures { λ r. ⌜ r ≡ judgedOf (Object.Pps 0 max min limit) word ⌝ }
 {
     let volts = pps_volts(word);
     if (volts.0 as u32) < (min.0 as u32) * 5 {
@@ -149,7 +108,7 @@ fn avs_limit(low: Ma10, high: Ma10, volts: Mv25) -> Ma10
 
 // 100 mV is four steps of 25 mV, 9.0 V is 360 of them; a step of 50 mA is five of 10 mA.
 fn judge_avs(low: Ma10, high: Ma10, word: u32) -> Verdict
-    ensures { λ r. ⌜ r ≡ limitsOf (Object.Avs 0 low high) word ⌝ }
+    ensures { λ r. ⌜ r ≡ judgedOf (Object.Avs 0 low high) word ⌝ }
 {
     let volts = avs_volts(word);
     if volts.0 % 4 != 0 {
@@ -170,14 +129,11 @@ fn judge_avs(low: Ma10, high: Ma10, word: u32) -> Verdict
     placeless(verdicts::SUCCESS)
 }
 
-// Whether a request word keeps to the limits of the object that it names. The position is not looked at: here is no list. Refusals: 21,
-// 23, 22, 24, 25, with place 0.
+// Whether a request word keeps to the limits of the object that it names. The position is not looked at: here is no list. Refusals: 23,
+// 22, 24, 25, with place 0.
 pub fn judge(o: Object, word: u32) -> Verdict
     ensures { λ r. ⌜ JudgesRequest o word r ⌝ }
 {
-    if reserved_bit_set(o, word) {
-        return placeless(verdicts::RESERVED_BIT_IN_REQUEST);
-    }
     if let Object::Fixed { current, .. } = o {
         return judge_current(current, word);
     }

@@ -1,4 +1,4 @@
-// A request word taken apart. Every bit place of a request stands here and, for reserved bits, in judging.rt.
+// A request word taken apart. Every bit place of a request that counts stands here. No other is looked at: reserved bits are ignored.
 ghost use mathlib.Core.Path.{_≡_};
 ghost use Rattle.requests.specs.Taking.{mismatchOf, operatingIn, maximumIn, ppsVolts, avsVolts, currentIn, requestOf};
 ghost use Rattle.requests.specs.Promises.{NamesPlace, TakesApart};

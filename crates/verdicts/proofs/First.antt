@@ -125,9 +125,9 @@ module _ (test : ℕ → Bool) where
   number-passes (refusal true n p ∷ rs) t f = and-eq-true-iff (test n) (allPass test rs) .0 t .0
   number-passes (refusal false n p ∷ rs) t f = number-passes rs (and-eq-true-iff (test n) (allPass test rs) .0 t .1) f
 
--- 0 is success and no refusal
+-- 0 is success and no refusal, and 21 is withdrawn
 abbrev pub isNumber : ℕ → Bool
-isNumber n = ltb 0 n
+isNumber n = ltb 0 n && not (eqb n 21)
 
 abbrev pub numbered : List Refusal → Bool
 numbered rs = allPass isNumber rs
@@ -157,12 +157,22 @@ module _ (m : ℕ) where
   without-append [] ys x y = y
   without-append (refusal b n p ∷ xs) ys x y = (x .0, without-append xs ys (x .1) y)
 
+  pub without-right : (xs ys : List Refusal) → Without m (xs ++ ys) → Without m ys
+  without-right [] ys x = x
+  without-right (refusal b n p ∷ xs) ys x = without-right xs ys (x .1)
+
   -- what is the number of no refusal is the number of no row
   pub without-numbered : isNumber m ≡ false → (rs : List Refusal) → numbered rs ≡ true → Without m rs
   without-numbered out [] t = tt
   without-numbered out (refusal b n p ∷ rs) t =
       let h = and-eq-true-iff (isNumber n) (numbered rs) .0 t in
       ((λ e. absurd (true≢false (sym (h .0) ∙ ap isNumber e ∙ out))), without-numbered out rs (h .1))
+
+  -- and it is not given
+  pub not-first : (p : ℕ) (rs : List Refusal) → Without m rs → First rs m p → ⊥
+  not-first p rs x f =
+      let y = subst (Without m) (f .stands) x in
+      true≢false (without-right (f .before) (refusal true m p ∷ f .after) y .0 refl)
 
 -- every row that applies has a number
 abbrev pub Telling : List Refusal → Type 0

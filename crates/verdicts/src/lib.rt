@@ -1,5 +1,5 @@
 // What a call answers: the number of its refusal and the place (docs/STATEMENT.md, "Refusal numbers"). Every number has its
-// name here and nowhere else. There is no 8.
+// name here and nowhere else. There is no 8, and 21 is withdrawn: it is not given again.
 
 // The answer of a call: the first refusal that applies, or success, which is number 0, place 0.
 #[repr(C)]
@@ -70,9 +70,6 @@ pub const CURRENT_NOT_ALLOWED: u8 = 19;
 
 // A request: it names a position that the list does not have.
 pub const POSITION: u8 = 20;
-
-// A request: a reserved bit of it is set.
-pub const RESERVED_BIT_IN_REQUEST: u8 = 21;
 
 // A request: the voltage is outside the range of the object.
 pub const VOLTAGE_OUTSIDE: u8 = 22;

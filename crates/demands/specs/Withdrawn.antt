@@ -1,0 +1,105 @@
+-- The number 21 is withdrawn (T-01; docs/STATEMENT.md, "Refusal numbers"): no public call gives it, for any input. A call that hands on a refusal of
+-- its caller's gives 21 only if that was 21. `Never21` has a line for each public call that gives a number, and is proved by `never-21` in
+-- proofs/Withdrawn.antt.
+-- Assumes nothing.
+use mathlib.Core.Path.{_≡_}
+use mathlib.Core.Bool.{Bool}
+use mathlib.Core.List.{List}
+use Prim.Native.Nat.{ℕ}
+use Rattle.verdicts.specs.declared.Verdict.{Verdict}
+use Rattle.steps.specs.declared.Mv50.{Mv50}
+use Rattle.steps.specs.declared.Mv100.{Mv100}
+use Rattle.steps.specs.declared.Ma10.{Ma10}
+use Rattle.steps.specs.declared.Ma50.{Ma50}
+use Rattle.steps.specs.declared.HalfWatts.{HalfWatts}
+use Rattle.objects.specs.declared.Object.{Object}
+use Rattle.objects.specs.declared.Decoded.{Decoded}
+use Rattle.objects.specs.declared.Encoded.{Encoded}
+use Rattle.objects.specs.Decode.{decodedSays}
+use Rattle.objects.specs.Encode.{encodedSays}
+use Rattle.lists.specs.declared.Words.{Words}
+use Rattle.lists.specs.declared.Objects.{Objects}
+use Rattle.lists.specs.declared.Reading.{Reading}
+use Rattle.lists.specs.declared.Listing.{Listing}
+use Rattle.rules.specs.declared.Profile.{Profile}
+use Rattle.rules.specs.declared.Profiled.{Profiled}
+use Rattle.rules.specs.declared.Placed.{Placed}
+use Rattle.rules.specs.Placing.{placedSays}
+use Rattle.ports.specs.declared.Row.{Row}
+use Rattle.ports.specs.declared.Standing.{Standing}
+use Rattle.ports.specs.declared.Change.{Change}
+use Rattle.ports.specs.declared.RemainingPower.{RemainingPower}
+use Rattle.flat.specs.declared.FlatObject.{FlatObject}
+use Rattle.flat.specs.declared.FlatObjects.{FlatObjects}
+use Rattle.flat.specs.declared.FlatReading.{FlatReading}
+use Rattle.flat.specs.declared.Raised.{Raised}
+use Rattle.flat.specs.Flat.{raisedSays}
+use Rattle.board.specs.Promises.{SharesSetUp, SharesAttach, SharesAdvertise, SharesRequest, SharesDetach, SharesRemaining}
+use Rattle.demands.specs.CallContracts.{DecodeAnswers, EncodeAnswers, FixedWordAnswers, PpsWordAnswers, AvsWordAnswers}
+use Rattle.demands.specs.CallContracts.{ShapeAnswers, ReadAnswers, RefuseAnswers, WriteAnswers}
+use Rattle.demands.specs.CallContracts.{DefaultAnswers, BuildAnswers, CheckAnswers, WordAtAnswers}
+use Rattle.demands.specs.CallContracts.{AnswerAnswers, JudgeAnswers}
+use Rattle.demands.specs.CallContracts.{BeginAnswers, TakeRowAnswers, AttachDecides, AdvertiseDecides, OfferAnswers, RequestDecides, DetachDecides, RemainingDecides}
+use Rattle.demands.specs.FlatContracts.{RaiseAnswers, FlatReadAnswers, FlatWriteAnswers}
+use Rattle.demands.specs.FlatContracts.{ArinDefaultAnswers, ArinBuildAnswers, ArinCheckAnswers, ArinShapeAnswers, ArinReadAnswers, ArinWriteAnswers, ArinAnswerAnswers}
+
+abbrev pub Not21 : ℕ → Type 0
+Not21 n = n ≡ 21 → ⊥
+
+pub record Never21 : Type 0 where
+  -- objects
+  pub decode : (w : ℕ) (r : Decoded) → DecodeAnswers w r → Not21 (decodedSays r .0)
+  pub encode : (o : Object) (r : Encoded) → EncodeAnswers o r → Not21 (encodedSays r .0)
+  pub fixed-word : (flags peak : ℕ) (volts : Mv50) (current : Ma10) (r : Encoded) → FixedWordAnswers flags peak volts current r → Not21 (encodedSays r .0)
+  pub pps-word : (limited : ℕ) (max min : Mv100) (current : Ma50) (r : Encoded) → PpsWordAnswers limited max min current r → Not21 (encodedSays r .0)
+  pub avs-word : (peak : ℕ) (low high : Ma10) (r : Encoded) → AvsWordAnswers peak low high r → Not21 (encodedSays r .0)
+  -- lists; `refuse` gives the number that it is handed
+  pub shape : (l : Words) (r : Verdict) → ShapeAnswers l r → Not21 (r .number)
+  pub read : (l : Words) (r : Reading) → ReadAnswers l r → Not21 (r .verdict .number)
+  pub write : (o : Objects) (r : Listing) → WriteAnswers o r → Not21 (r .verdict .number)
+  pub refuse : (number place : ℕ) (r : Listing) → RefuseAnswers number place r → Not21 number → Not21 (r .verdict .number)
+  -- rules
+  pub default-profile : (m : HalfWatts) (r : Profiled) → DefaultAnswers m r → Not21 (r .verdict .number)
+  pub build : (p : Profile) (r : Listing) → BuildAnswers p r → Not21 (r .verdict .number)
+  pub word-at : (p : Profile) (place : ℕ) (r : Placed) → WordAtAnswers p place r → Not21 (placedSays r .0)
+  pub check : (p : Profile) (l : Words) (r : Verdict) → CheckAnswers p l r → Not21 (r .number)
+  -- requests
+  pub judge : (o : Object) (w : ℕ) (r : Verdict) → JudgeAnswers o w r → Not21 (r .number)
+  pub answer : (l : Words) (w : ℕ) (r : Verdict) → AnswerAnswers l w r → Not21 (r .number)
+  -- ports, by value; a standing or a change that is handed in may have a refusal already, which is handed on
+  pub begin : (count : ℕ) (capacity : HalfWatts) (r : Standing) → BeginAnswers count capacity r → Not21 (r .fault .number)
+  pub take-row : (s : Standing) (y : Row) (place : ℕ) (fresh : Bool) (r : Standing) → TakeRowAnswers s y place fresh r
+      → Not21 (s .fault .number) → Not21 (r .fault .number)
+  pub attach : (s : Standing) (y : Row) (capacity : HalfWatts) (port cable : ℕ) (r : Change) → AttachDecides s y capacity port cable r
+      → Not21 (s .fault .number) → Not21 (r .answer .number)
+  pub advertise : (s : Standing) (y : Row) (capacity : HalfWatts) (port : ℕ) (r : Change) → AdvertiseDecides s y capacity port r
+      → Not21 (s .fault .number) → Not21 (r .answer .number)
+  pub offer : (c : Change) (r : Listing) → OfferAnswers c r → Not21 (c .answer .number) → Not21 (r .verdict .number)
+  pub request : (s : Standing) (y : Row) (capacity : HalfWatts) (port word : ℕ) (r : Change) → RequestDecides s y capacity port word r
+      → Not21 (s .fault .number) → Not21 (r .answer .number)
+  pub detach : (s : Standing) (y : Row) (capacity : HalfWatts) (port : ℕ) (r : Change) → DetachDecides s y capacity port r
+      → Not21 (s .fault .number) → Not21 (r .answer .number)
+  pub remaining : (s : Standing) (capacity : HalfWatts) (r : RemainingPower) → RemainingDecides s capacity r
+      → Not21 (s .fault .number) → Not21 (r .verdict .number)
+  -- flat
+  pub raise : (x : FlatObject) (r : Raised) → RaiseAnswers x r → Not21 (raisedSays r .0)
+  pub flat-read : (l : Words) (r : FlatReading) → FlatReadAnswers l r → Not21 (r .verdict .number)
+  pub flat-write : (f : FlatObjects) (r : Listing) → FlatWriteAnswers f r → Not21 (r .verdict .number)
+  -- board, lists and requests
+  pub arin-default-profile : (m : ℕ) (r : Profiled) → ArinDefaultAnswers m r → Not21 (r .verdict .number)
+  pub arin-build : (p : Profile) (r : Listing) → ArinBuildAnswers p r → Not21 (r .verdict .number)
+  pub arin-check : (p : Profile) (l : Words) (r : Verdict) → ArinCheckAnswers p l r → Not21 (r .number)
+  pub arin-shape : (l : Words) (r : Verdict) → ArinShapeAnswers l r → Not21 (r .number)
+  pub arin-read : (l : Words) (r : FlatReading) → ArinReadAnswers l r → Not21 (r .verdict .number)
+  pub arin-write : (f : FlatObjects) (r : Listing) → ArinWriteAnswers f r → Not21 (r .verdict .number)
+  pub arin-answer : (l : Words) (w : ℕ) (r : Verdict) → ArinAnswerAnswers l w r → Not21 (r .number)
+  -- board, over lent rows that can be anything
+  pub arin-set-up : (ys : List Row) (capacity : ℕ) (r : Verdict) (zs : List Row) → SharesSetUp ys capacity r zs → Not21 (r .number)
+  pub arin-attach : (ys : List Row) (capacity port cable : ℕ) (r : Listing) (zs : List Row) → SharesAttach ys capacity port cable r zs
+      → Not21 (r .verdict .number)
+  pub arin-advertise : (ys : List Row) (capacity port : ℕ) (r : Listing) (zs : List Row) → SharesAdvertise ys capacity port r zs
+      → Not21 (r .verdict .number)
+  pub arin-request : (ys : List Row) (capacity port word : ℕ) (r : Verdict) (zs : List Row) → SharesRequest ys capacity port word r zs
+      → Not21 (r .number)
+  pub arin-detach : (ys : List Row) (capacity port : ℕ) (r : Verdict) (zs : List Row) → SharesDetach ys capacity port r zs → Not21 (r .number)
+  pub arin-remaining : (ys : List Row) (capacity : ℕ) (r : RemainingPower) → SharesRemaining ys capacity r → Not21 (r .verdict .number)
