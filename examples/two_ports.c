@@ -76,7 +76,7 @@ static void answer_request(uint8_t port, uint32_t word)
         send_list(port, arin_advertise(rows, PORTS, CAPACITY, port));
         break;
     default:
-        /* Send Reject: the port keeps what it holds. 20 to 25 are the sink's fault; any other number is a fault of this program. */
+        /* Send Reject: the port keeps what it holds. 20 and 22 to 25 are the sink's fault; any other number is a fault of this program. */
         printf("  reject: ");
         print_refusal(v);
     }

@@ -36,9 +36,9 @@
 
 /* The version of the header, and of the library that it came with. */
 #define ARIN_VERSION_MAJOR 0
-#define ARIN_VERSION_MINOR 1
+#define ARIN_VERSION_MINOR 2
 #define ARIN_VERSION_PATCH 0
-#define ARIN_VERSION "0.1.0"
+#define ARIN_VERSION "0.2.0"
 
 /*
  * Stands before every call: an answer that nobody looks at is a slip, and GCC and clang warn of it. Other compilers see nothing.
@@ -73,7 +73,7 @@ extern "C" {
 /* The most words in a list, and the most rows in a call. */
 enum { ARIN_LIST_PLACES = 7, ARIN_MOST_ROWS = 8 };
 
-/* The refusal numbers. There is no 8. */
+/* The refusal numbers. There is no 8, and 21 is withdrawn: no call gives it, and it will not have another meaning. */
 enum arin_refusal {
     ARIN_SUCCESS = 0,
 
@@ -106,12 +106,11 @@ enum arin_refusal {
     ARIN_CURRENT_NOT_ALLOWED = 19, /* the place is the first such word */
 
     /* A request. The place is always 0. */
-    ARIN_POSITION = 20,                /* position not 1..count */
-    ARIN_RESERVED_BIT_IN_REQUEST = 21, /* reserved bit set in the request */
-    ARIN_VOLTAGE_OUTSIDE = 22,         /* voltage outside the range of the object */
-    ARIN_AVS_VOLTAGE_NOT_WHOLE = 23,   /* AVS voltage not a whole 100 mV */
-    ARIN_OPERATING_TOO_LARGE = 24,     /* operating figure above the advertised one */
-    ARIN_MAXIMUM_TOO_LARGE = 25,       /* maximum figure above it, and no capability mismatch (bit 26) */
+    ARIN_POSITION = 20,              /* position not 1..count */
+    ARIN_VOLTAGE_OUTSIDE = 22,       /* voltage outside the range of the object */
+    ARIN_AVS_VOLTAGE_NOT_WHOLE = 23, /* AVS voltage not a whole 100 mV */
+    ARIN_OPERATING_TOO_LARGE = 24,   /* operating figure above the advertised one */
+    ARIN_MAXIMUM_TOO_LARGE = 25,     /* maximum figure above it, and no capability mismatch (bit 26) */
 
     /* Ports that share. */
     ARIN_ROW_COUNT = 30,         /* row count not 1..8 */
@@ -270,8 +269,9 @@ ARIN_MUST_USE struct arin_flat_reading arin_read(struct arin_words list);
 ARIN_MUST_USE struct arin_listing arin_write(struct arin_flat_objects list);
 
 /*
- * Whether a request word (RDO) may be accepted on the list that was advertised: number 0 where it may.
- * Refusals: those of arin_shape, with their places; then 20, 21, 23, 22, 24, 25.
+ * Whether a request word (RDO) may be accepted on the list that was advertised: number 0 where it may. Its reserved bits are ignored,
+ * set or clear.
+ * Refusals: those of arin_shape, with their places; then 20, 23, 22, 24, 25.
  */
 ARIN_MUST_USE struct arin_verdict arin_answer(struct arin_words list, uint32_t word);
 
@@ -300,8 +300,8 @@ ARIN_MUST_USE struct arin_listing arin_advertise(struct arin_row *rows, size_t c
  * Judges a request word (RDO) on the port's latest list, which is made anew from its row: what was sent does not matter. On success
  * the port holds the power asked for: voltage times operating current, rounded up to a half watt, at least 15 half watts, and for
  * PPS at most its present power. On a refusal it holds what it held. 36 is given exactly when the list allows the request and the
- * other ports leave less than it would hold.
- * Refusals: 30, 32, 37 (the first row at fault, or 0), 33, 35 (the row), then 20, 21, 23, 22, 24, 25, then 36 (the row).
+ * other ports leave less than it would hold. Reserved bits of the word are ignored, in what is held too.
+ * Refusals: 30, 32, 37 (the first row at fault, or 0), 33, 35 (the row), then 20, 23, 22, 24, 25, then 36 (the row).
  */
 ARIN_MUST_USE struct arin_verdict arin_request(struct arin_row *rows, size_t count, uint16_t capacity, uint8_t port, uint32_t word);
 

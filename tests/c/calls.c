@@ -282,7 +282,7 @@ static const struct refusal refusals[] = {
 /* Whether the statement has such a refusal. */
 static int is_refusal(unsigned number)
 {
-    return (number <= 25 && number != 8) || (number >= 30 && number <= 37);
+    return (number <= 25 && number != 8 && number != 21) || (number >= 30 && number <= 37);
 }
 
 static void texts(void)
@@ -291,7 +291,7 @@ static void texts(void)
     const char *none = arin_refusal_text(8);
     unsigned i, j;
 
-    CHECK(rows == 33);
+    CHECK(rows == 32);
     for (i = 0; i < rows; i++) {
         CHECK(refusals[i].number == refusals[i].named);
         CHECK(is_refusal(refusals[i].number));
@@ -560,7 +560,6 @@ static void answers(void)
     CHECK(is(arin_answer(l, ask(4, 326)), 24, 0));
     CHECK(is(arin_answer(l, 0x40051546), ARIN_MAXIMUM_TOO_LARGE, 0));
     CHECK(is(arin_answer(l, 0x44051546), 0, 0));
-    CHECK(is(arin_answer(l, 0x48051545), ARIN_RESERVED_BIT_IN_REQUEST, 0));
     /* 9 V Prog of the 36 W list: 11 V is 550 steps of 20 mV. */
     CHECK(is(arin_answer(list_36_w(), ask_volts(5, 550, 60)), 0, 0));
     CHECK(is(arin_answer(list_36_w(), ask_volts(5, 551, 60)), 22, 0));
@@ -569,6 +568,36 @@ static void answers(void)
     CHECK(is(arin_answer(three, ask(3, 200)), 0, 0));
     CHECK(is(arin_answer(words(0, 0, 0, 0, 0, 0, 0), ask(4, 325)), ARIN_COUNT, 0));
     CHECK(is(arin_answer(after_5_v(0xD0000000), ask(1, 300)), ARIN_KIND_NOT_ALLOWED, 2));
+}
+
+/* Bits 27, 21 and 20 beside two figures, bits 27, 21, 8 and 7 beside a voltage, and bit 21 alone. */
+enum { BESIDE_FIGURES = 0x08300000, BESIDE_VOLTAGE = 0x08200180, BIT_21 = 0x00200000 };
+
+static void reserved_bits_are_ignored(void)
+{
+    struct arin_words l = list_l();
+    struct arin_words three = list_of_three();
+    uint32_t at;
+
+    for (at = 1; at <= 4; at++) {
+        CHECK(is(arin_answer(l, ask(at, 300) | BIT_21), 0, 0));
+        CHECK(is(arin_answer(l, ask(at, 300) | BESIDE_FIGURES), 0, 0));
+        CHECK(is(arin_answer(l, ask(at, 326) | BESIDE_FIGURES), 24, 0));
+    }
+    CHECK(is(arin_answer(three, ask(2, 400) | BIT_21), 0, 0));
+    CHECK(is(arin_answer(three, ask(2, 401) | BESIDE_FIGURES), 24, 0));
+    CHECK(is(arin_answer(three, ask(3, 200) | BIT_21), 0, 0));
+    CHECK(is(arin_answer(three, ask(3, 200) | BESIDE_FIGURES), 0, 0));
+    CHECK(is(arin_answer(l, 0x40051546 | BESIDE_FIGURES), ARIN_MAXIMUM_TOO_LARGE, 0));
+    CHECK(is(arin_answer(list_36_w(), ask_volts(5, 550, 60) | BIT_21), 0, 0));
+    CHECK(is(arin_answer(list_36_w(), ask_volts(5, 550, 60) | BESIDE_VOLTAGE), 0, 0));
+    CHECK(is(arin_answer(list_36_w(), ask_volts(5, 551, 60) | BESIDE_VOLTAGE), 22, 0));
+    CHECK(is(arin_answer(l, ask_volts(5, 600, 65) | BIT_21), 0, 0));
+    CHECK(is(arin_answer(l, ask_volts(5, 600, 65) | BESIDE_VOLTAGE), 0, 0));
+    CHECK(is(arin_answer(l, ask_volts(5, 600, 66) | BESIDE_VOLTAGE), 24, 0));
+    CHECK(is(arin_answer(l, ask_volts(5, 602, 65) | BESIDE_VOLTAGE), ARIN_AVS_VOLTAGE_NOT_WHOLE, 0));
+    /* Bit 20 is the top of a voltage. */
+    CHECK(is(arin_answer(l, ask_volts(5, 600, 65) | 0x00100000), 22, 0));
 }
 
 /* ---- Ports that share ---- */
@@ -608,6 +637,32 @@ static void marked_run(void)
     CHECK(is(arin_detach(r, 2, 200, 2), 0, 0));
     CHECK(is_row(r[0], row(130, 0, 5, 130, 54)) && is_row(r[1], row(130, 0, 0, 0, 15)));
     CHECK(is_power(arin_remaining(r, 2, 200), 0, 0, 131));
+}
+
+/* A request with reserved bits holds what it holds without them: 20 V at 3.25 A 130, 15.0 V at 3.25 A of AVS 98, 9 V at 3 A of PPS 54. */
+static void reserved_bits_hold_the_same(void)
+{
+    struct arin_row start = row(130, 0, 5, 130, 15);
+    struct arin_row pps = row(54, 1, 3, 54, 15);
+    struct arin_row r[2];
+
+    r[0] = start;
+    r[1] = row(130, 0, 5, 130, 70);
+    CHECK(is(arin_request(r, 2, 200, 1, ask(4, 325) | BIT_21), 0, 0));
+    CHECK(is_row(r[0], row(130, 0, 5, 130, 130)) && is_row(r[1], row(130, 0, 5, 130, 70)));
+    r[0] = start;
+    CHECK(is(arin_request(r, 2, 200, 1, ask(4, 325) | BESIDE_FIGURES), 0, 0));
+    CHECK(is_row(r[0], row(130, 0, 5, 130, 130)) && is_row(r[1], row(130, 0, 5, 130, 70)));
+    r[0] = start;
+    CHECK(is(arin_request(r, 2, 200, 1, ask_volts(5, 600, 65) | BESIDE_VOLTAGE), 0, 0));
+    CHECK(is_row(r[0], row(130, 0, 5, 130, 98)) && is_row(r[1], row(130, 0, 5, 130, 70)));
+    r[0] = pps;
+    CHECK(is(arin_request(r, 2, 200, 1, ask_volts(3, 450, 60) | BESIDE_VOLTAGE), 0, 0));
+    CHECK(is_row(r[0], row(54, 1, 3, 54, 54)) && is_row(r[1], row(130, 0, 5, 130, 70)));
+    /* 199 less 70 is one less than 130. */
+    r[0] = start;
+    CHECK(is(arin_request(r, 2, 199, 1, ask(4, 325) | BESIDE_FIGURES), ARIN_NO_POWER_NOW, 1));
+    CHECK(is_row(r[0], start) && is_row(r[1], row(130, 0, 5, 130, 70)));
 }
 
 /* One port of 36 W with PPS gets the listing of the README. Eight ports are the most. */
@@ -796,7 +851,9 @@ int main(void)
     writing();
     writing_no_kind();
     answers();
+    reserved_bits_are_ignored();
     marked_run();
+    reserved_bits_hold_the_same();
     more_runs();
     hard_reset();
     flags_of_a_shared_list();

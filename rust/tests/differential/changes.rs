@@ -117,7 +117,7 @@ fn advertise_by_value() {
 fn request_by_value() {
     compare(
         "request",
-        &[0, 10, 20, 21, 22, 23, 24, 25, 33, 35, 36, 37],
+        &[0, 10, 20, 22, 23, 24, 25, 33, 35, 36, 37],
         |g, row| ports::request(g.standing, row, g.watts(), g.port, g.word),
         |g| stated::request(g.standing, g.row, g.capacity, g.port, g.word),
     );

@@ -38,13 +38,12 @@ fn names_have_the_numbers_of_the_statement() {
     assert_eq!(
         [
             POSITION,
-            RESERVED_BIT_IN_REQUEST,
             VOLTAGE_OUTSIDE,
             AVS_VOLTAGE_NOT_WHOLE,
             OPERATING_TOO_LARGE,
             MAXIMUM_TOO_LARGE,
         ],
-        [20, 21, 22, 23, 24, 25]
+        [20, 22, 23, 24, 25]
     );
     assert_eq!(
         [

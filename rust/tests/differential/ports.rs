@@ -8,7 +8,7 @@ use crate::{requests, requests_made, rows_made};
 use model::{Listing, Row, Words};
 
 pub const NUMBERS: &[u8] = &[
-    0, 3, 4, 20, 21, 22, 23, 24, 25, 30, 31, 32, 33, 34, 35, 36, 37,
+    0, 3, 4, 20, 22, 23, 24, 25, 30, 31, 32, 33, 34, 35, 36, 37,
 ];
 
 const BELOW_15: &str = "less than 7.5 W asked, 15 held";

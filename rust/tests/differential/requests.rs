@@ -6,9 +6,9 @@ use crate::{lists_made, objects_made, requests_made};
 use arinduleu::{board, requests};
 use model::{Object, Request, Verdict, Words};
 
-pub const NUMBERS: &[u8] = &[0, 10, 11, 12, 13, 14, 15, 16, 17, 20, 21, 22, 23, 24, 25];
+pub const NUMBERS: &[u8] = &[0, 10, 11, 12, 13, 14, 15, 16, 17, 20, 22, 23, 24, 25];
 
-const JUDGED: &[u8] = &[0, 21, 22, 23, 24, 25];
+const JUDGED: &[u8] = &[0, 22, 23, 24, 25];
 
 pub const CASES: [&str; 6] = [
     "fixed",

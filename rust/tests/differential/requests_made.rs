@@ -31,7 +31,7 @@ fn mismatch(random: &mut Random) -> u32 {
     random.u32() & 0x07C0_0000
 }
 
-/// What the request asks of this object, and now and then a bit that is reserved.
+/// What the request asks of this object, and in one of three any of the bits that are reserved.
 fn fields(random: &mut Random, object: &Object) -> u32 {
     match *object {
         Object::Fixed { current: limit, .. }
@@ -73,8 +73,8 @@ fn beside_volts(random: &mut Random, volts: u16, limit: u16) -> u32 {
 }
 
 fn reserved(random: &mut Random, bits: &[u32]) -> u32 {
-    if random.one_in(16) {
-        1 << random.pick(bits)
+    if random.one_in(3) {
+        bits.iter().fold(0, |word, bit| word | (random.u32() & 1) << bit)
     } else {
         0
     }
