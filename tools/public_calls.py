@@ -10,7 +10,8 @@ Each public function has one row under "## Every public function":
 
 The last three cells are theorems of crates/demands/proofs, `name` or `name`, `name`, or a dash and a reason: "- takes no list".
 "No second outcome" is asked of all, and a theorem of refusals of each that refuses something. The contract has an `ensures`
-and no `requires`.
+and no `requires`. A function that gives a number has its line in the claim that none gives a withdrawn one, Never21 in WITHDRAWN:
+`default_profile` is `default-profile` there.
 """
 
 import re
@@ -19,6 +20,7 @@ from pathlib import Path
 
 TABLE = "docs/TRACE.md"
 HEADING = "## Every public function"
+WITHDRAWN = "crates/demands/specs/Withdrawn.antt"
 # DECISIONS, "Which functions have no contract that settles their answer?": what the programs print and take their lines apart with.
 EXEMPT = {"lines"}
 COLUMNS = ("outcome", "refusals", "unread places")
@@ -114,6 +116,11 @@ def theorems_of(root):
     return found
 
 
+def never_withdrawn(root):
+    """The functions that the claim has a line for: the fields of its record."""
+    return {line[1] for line in (re.match(r"  pub (\S+) :", text) for text in lines_of(root / WITHDRAWN)) if line}
+
+
 def rows_of(root, faults):
     """Each row of the table: its place and its cells."""
     lines = lines_of(root / TABLE)
@@ -150,6 +157,18 @@ def judge_row(place, function, cells, theorems, faults):
         faults.append(f"{place}: {function}: it refuses something, and no theorem says when")
 
 
+def judge_withdrawn(root, rows, faults):
+    """Each function that gives a number, its own or one that it is handed, has a line in the claim."""
+    claimed, public = never_withdrawn(root), set()
+    for place, cells in rows:
+        name = cells[0].strip("`").split("::")[-1].replace("_", "-")
+        public.add(name)
+        if re.search(r"\d|own", cells[1]) and name not in claimed:
+            faults.append(f"{place}: {cells[0]} gives a number, and {WITHDRAWN} has no line for {name}")
+    for name in sorted(claimed - public):
+        faults.append(f"{WITHDRAWN}: {name} is no public function")
+
+
 def judge_table(root, functions, faults):
     """The theorems that the table names."""
     theorems, seen, named = theorems_of(root), set(), set()
@@ -167,6 +186,7 @@ def judge_table(root, functions, faults):
         seen.add(name)
         judge_row(place, name, cells[1:], theorems, faults)
         named.update(theorem for cell in cells[2:] for theorem in names_in(cell))
+    judge_withdrawn(root, rows, faults)
     for name, (place, _) in functions.items():
         if rows and name not in seen:
             faults.append(f"{place}: {name} is public and not in the table of {TABLE}")

@@ -1,6 +1,6 @@
 -- Proves the claim of specs/Withdrawn.antt: no row of a table has the number 21, and a call gives the number of a row.
 -- Assumes nothing.
-use mathlib.Core.Path.{_≡_, refl, sym, ap, _∙_, subst}
+use mathlib.Core.Path.{_≡_, refl, sym, ap, _∙_}
 use mathlib.Core.Bool.{Bool, true, false, not}
 use mathlib.Core.List.{List, [], _∷_}
 use Prim.Native.Nat.{ℕ}
@@ -24,7 +24,6 @@ use Rattle.requests.specs.Answering.{answerRefusals}
 use Rattle.requests.proofs.Answers.{answer-numbered, judged-numbered}
 use Rattle.ports.specs.declared.Row.{Row}
 use Rattle.ports.specs.declared.Standing.{Standing}
-use Rattle.ports.specs.declared.Change.{Change}
 use Rattle.ports.specs.RuleLists.{ruleProfile}
 use Rattle.ports.specs.Refusing.{tableRefusals, setUpRefusals, attachRefusals, useRefusals, requestRefusals, remainingRefusals}
 use Rattle.ports.specs.Standing.{rowRefusals, soFar, endRefusals}

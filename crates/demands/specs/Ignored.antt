@@ -1,9 +1,9 @@
 -- A request is judged without its reserved bits (T-01; docs/STATEMENT.md, "Answering a request": "Two requests to the same object that differ
 -- in no other bit get the same answer on the same list; asked of the same port of the same rows they get the same answer and leave the same rows.").
 -- Each claim is over the contract of a call, for every input, and is proved by the theorem of its name in small letters in proofs/Ignored.antt.
--- `AgreeOutside places w v` (requests, specs/Ignoring): the words w and v have the same bit at each of the 32 places but these. `ignoredBy` and
--- `ignoredFor` are the places, by the object that is asked; `namedBy l w` is what the position in w names in the list l. Where the position is
--- outside 1 to the count, that is whatever stands there, or a zero word: no answer depends on it.
+-- `AgreeOutside places w v` (requests, specs/Ignoring): the words w and v have the same bit at each of the 32 places but these. `ignoredBy o` are
+-- the places that are ignored where the object o is asked; `SameOn l w v`: the words agree but for what is ignored on the list l, by the object
+-- that the position names there, and where it names none all but the position.
 -- Assumes nothing.
 use mathlib.Core.Path.{_≡_}
 use mathlib.Core.List.{List}
@@ -12,8 +12,7 @@ use Rattle.verdicts.specs.declared.Verdict.{Verdict}
 use Rattle.steps.specs.declared.HalfWatts.{HalfWatts}
 use Rattle.objects.specs.declared.Object.{Object}
 use Rattle.lists.specs.declared.Words.{Words}
-use Rattle.requests.specs.Answering.{namedBy}
-use Rattle.requests.specs.Ignoring.{ignoredBy, ignoredFor, AgreeOutside}
+use Rattle.requests.specs.Ignoring.{ignoredBy, AgreeOutside, SameOn}
 use Rattle.ports.specs.declared.Row.{Row}
 use Rattle.ports.specs.declared.Standing.{Standing}
 use Rattle.ports.specs.declared.Change.{Change}
@@ -22,10 +21,6 @@ use Rattle.ports.specs.RuleLists.{ruleList}
 use Rattle.board.specs.Promises.{SharesRequest}
 use Rattle.demands.specs.CallContracts.{JudgeAnswers, AnswerAnswers, RequestDecides}
 use Rattle.demands.specs.FlatContracts.{ArinAnswerAnswers}
-
--- two requests on a list that differ in ignored bits alone
-abbrev pub SameOn : Words → ℕ → ℕ → Type 0
-SameOn l w v = AgreeOutside (ignoredFor (namedBy l w)) w v
 
 -- ---- asked of an object, and of a list
 

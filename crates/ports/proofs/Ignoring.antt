@@ -8,7 +8,6 @@ use Rattle.objects.specs.declared.Object.the-variants.{Fixed, Battery, Variable
 use Rattle.objects.specs.declared.Decoded.{Decoded}
 use Rattle.objects.specs.declared.Decoded.the-variants.{Known, NotAllowed}
 use Rattle.lists.specs.declared.Words.{Words}
-use Rattle.requests.specs.Taking.{requestOf}
 use Rattle.requests.specs.Limits.{voltsOf, operatingOf}
 use Rattle.requests.specs.Answering.{namedBy}
 use Rattle.requests.specs.Ignoring.{ignoredBy, ignoredFor, AgreeOutside}

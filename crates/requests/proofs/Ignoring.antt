@@ -1,8 +1,8 @@
 -- Ignored bits change no answer: a field is what its bits are, and no field that counts has an ignored bit.
 -- Assumes nothing.
 use mathlib.Core.Path.{_≡_, refl, sym, ap, ap₂, _∙_}
-use mathlib.Core.Bool.{Bool, true, false, not, _&&_, _||_, and-eq-true-iff}
-use mathlib.Core.List.{List, [], _∷_, _++_}
+use mathlib.Core.Bool.{Bool, true, false, not, _&&_, _||_, cond, and-eq-true-iff}
+use mathlib.Core.List.{List, [], _∷_, _++_, append-nil}
 use Prim.Native.Nat.{ℕ, zero, suc, _+_, _-_, _*_, _/_, _%_, _^_, _<_, _≤_}
 use native.Mathlib.Nat.{mod-one}
 use native.Mathlib.Omega.{arith}
@@ -10,7 +10,8 @@ use lib.Pow.{shr-shr, mod-pow-add}
 use lib.Dec.{ltb, eqb}
 use borrow.Author.Tests.{ltb-true, ne-eqb}
 use lib.ListN.{getD}
-use Rattle.verdicts.specs.Refusals.{Refusal, refusal, verdictOf}
+use Rattle.verdicts.specs.Refusals.{Refusal, refusal, firstOf, verdict, success, verdictOf}
+use Rattle.verdicts.proofs.First.{hit, onward}
 use Rattle.steps.specs.Units.{mv25, ma10, ma50}
 use Rattle.objects.specs.Bits.{bits}
 use Rattle.objects.specs.declared.Object.{Object}
@@ -26,7 +27,7 @@ use Rattle.requests.specs.Taking.{positionOf, mismatchOf, operatingIn, m
 use Rattle.requests.specs.Limits.{avsLimit, voltageNotWhole, voltageOutside, operatingTooLarge, maximumTooLarge}
 use Rattle.requests.specs.Judging.{refusalsOf, judgedOf}
 use Rattle.requests.specs.Answering.{badPosition, namedBy, namedRefusals, answerRefusals, answerOf}
-use Rattle.requests.specs.Ignoring.{besideFigures, besideVoltage, ignoredBy, ignoredFor, isNoneOf, AgreeOutside}
+use Rattle.requests.specs.Ignoring.{besideFigures, besideVoltage, belowPosition, ignoredBy, ignoredFor, isNoneOf, AgreeOutside, SameOn}
 use Rattle.requests.proofs.Limits.{no-maximum}
 
 -- ---- a field is what its bits are
@@ -114,7 +115,7 @@ module _ (w v : ℕ) where
   same-position (Known (Variable x m a)) same = same-field w v besideFigures same 31 28 (omega arith) refl
   same-position (Known (Pps l x m a)) same = same-field w v besideVoltage same 31 28 (omega arith) refl
   same-position (Known (Avs p l h)) same = same-field w v besideVoltage same 31 28 (omega arith) refl
-  same-position NotAllowed same = same-field w v (ignoredFor NotAllowed) same 31 28 (omega arith) refl
+  same-position NotAllowed same = same-field w v belowPosition same 31 28 (omega arith) refl
 
 -- ---- what it is refused for
 
@@ -141,11 +142,7 @@ same-named : (w v : ℕ) (d : Decoded) → AgreeOutside (ignoredFor d) w v → n
 same-named w v (Known o) same = same-refusals w v o same
 same-named w v NotAllowed same = refl
 
--- ---- the answers
-
-pub judged-ignores : (w v : ℕ) (o : Object) → AgreeOutside (ignoredBy o) w v → judgedOf o w ≡ judgedOf o v
-unfolding judgedOf
-judged-ignores w v o same = ap verdictOf (same-refusals w v o same)
+-- ---- the table of a list
 
 module _ (l : Words) (w v : ℕ) (same : AgreeOutside (ignoredFor (namedBy l w)) w v) where
   same-place : positionOf w ≡ positionOf v
@@ -155,12 +152,46 @@ module _ (l : Words) (w v : ℕ) (same : AgreeOutside (ignoredFor (namedBy l w))
   pub names-same : namedBy l w ≡ namedBy l v
   names-same = ap (λ (n : ℕ). decodeOf (getD (l .words) (n - 1) 0)) same-place
 
-  pub table-ignores : answerRefusals l w ≡ answerRefusals l v
-  table-ignores =
+  table-same : answerRefusals l w ≡ answerRefusals l v
+  table-same =
       ap₂ (λ (b : Bool) (own : List Refusal). shapeRefusals l ++ (refusal b 20 0 ∷ own))
       (ap (badPosition (l .count)) same-place)
       (same-named w v (namedBy l w) same ∙ ap (λ (d : Decoded). namedRefusals d v) names-same)
 
-  pub answer-ignores : answerOf l w ≡ answerOf l v
-  unfolding answerOf
-  answer-ignores = ap verdictOf table-ignores
+-- ---- the answers
+
+pub judged-ignores : (w v : ℕ) (o : Object) → AgreeOutside (ignoredBy o) w v → judgedOf o w ≡ judgedOf o v
+unfolding judgedOf
+judged-ignores w v o same = ap verdictOf (same-refusals w v o same)
+
+-- what comes behind 20 does not matter
+stops-at-20 : {A : Type 0} (refused : ℕ → ℕ → A) (l : Words) (w : ℕ) → badPosition (l .count) (positionOf w) ≡ true
+    → (after : List Refusal) (x : A) → firstOf refused (answerRefusals l w ++ after) x ≡ firstOf refused (shapeRefusals l) (refused 20 0)
+stops-at-20 refused l w bad after x =
+    onward refused x (answerRefusals l w) after
+    ∙ onward refused (firstOf refused after x) (shapeRefusals l) _
+    ∙ ap (firstOf refused (shapeRefusals l)) (hit refused (firstOf refused after x) 20 0 _ bad)
+
+-- the table of a list, what comes behind it and the answer at its end, where these go by a figure of the request
+module _ {A : Type 0} (refused : ℕ → ℕ → A) (l : Words) (w v : ℕ) (same : SameOn l w v) (after : ℕ → List Refusal) (end : ℕ → A)
+    (figure : ℕ → ℕ) (same-figure : AgreeOutside (ignoredFor (namedBy l w)) w v → figure w ≡ figure v) where
+  abbrev told : ℕ → A
+  told u = firstOf refused (answerRefusals l u ++ after (figure u)) (end (figure u))
+
+  same-told : (b : Bool) → badPosition (l .count) (positionOf w) ≡ b
+      → AgreeOutside (cond b belowPosition (ignoredFor (namedBy l w))) w v → told w ≡ told v
+  same-told true bad agree =
+      let place : positionOf w ≡ positionOf v = same-field w v belowPosition agree 31 28 (omega arith) refl in
+      stops-at-20 refused l w bad _ _ ∙ sym (stops-at-20 refused l v (ap (badPosition (l .count)) (sym place) ∙ bad) _ _)
+  same-told false good agree =
+      ap₂ (λ (rs : List Refusal) (n : ℕ). firstOf refused (rs ++ after n) (end n)) (table-same l w v agree) (same-figure agree)
+
+  pub told-ignores : told w ≡ told v
+  told-ignores = same-told (badPosition (l .count) (positionOf w)) refl same
+
+pub answer-ignores : (l : Words) (w v : ℕ) → SameOn l w v → answerOf l w ≡ answerOf l v
+unfolding answerOf
+answer-ignores l w v same =
+    whole w ∙ told-ignores verdict l w v same (λ n. []) (λ n. success) (λ u. 0) (λ agree. refl) ∙ sym (whole v) where
+      whole : (u : ℕ) → verdictOf (answerRefusals l u) ≡ verdictOf (answerRefusals l u ++ [])
+      whole u = ap verdictOf (sym (append-nil (answerRefusals l u)))

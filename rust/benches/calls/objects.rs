@@ -120,7 +120,7 @@ fn good_request(dice: &mut Dice, object: Object) -> u32 {
     }
 }
 
-/// A request to one place of a list; one in four has a bit turned, and most of these are refused.
+/// A request to one place of a list; one in four has a bit turned, and some of these are refused.
 pub fn request(dice: &mut Dice, list: Words) -> u32 {
     let at = dice.below(u32::from(list.count.clamp(1, 7)));
     let Decoded::Known(object) = decode(list.words[at as usize]) else {
