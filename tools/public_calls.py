@@ -10,8 +10,9 @@ Each public function has one row under "## Every public function":
 
 The last three cells are theorems of crates/demands/proofs, `name` or `name`, `name`, or a dash and a reason: "- takes no list".
 "No second outcome" is asked of all, and a theorem of refusals of each that refuses something. The contract has an `ensures`
-and no `requires`. A function that gives a number has its line in the claim that none gives a withdrawn one, Never21 in WITHDRAWN:
-`default_profile` is `default-profile` there.
+and no `requires`. A function that gives the number of a refusal has its line in the claim that none gives a withdrawn one, Never21 in
+WITHDRAWN: `default_profile` is `default-profile` there. What gives one is a function whose second cell has a number or "own", and those
+of HANDED, which refuse nothing themselves and give the number that they are handed.
 """
 
 import re
@@ -21,6 +22,7 @@ from pathlib import Path
 TABLE = "docs/TRACE.md"
 HEADING = "## Every public function"
 WITHDRAWN = "crates/demands/specs/Withdrawn.antt"
+HANDED = {"`lists::refuse`"}
 # DECISIONS, "Which functions have no contract that settles their answer?": what the programs print and take their lines apart with.
 EXEMPT = {"lines"}
 COLUMNS = ("outcome", "refusals", "unread places")
@@ -158,13 +160,16 @@ def judge_row(place, function, cells, theorems, faults):
 
 
 def judge_withdrawn(root, rows, faults):
-    """Each function that gives a number, its own or one that it is handed, has a line in the claim."""
+    """Each function that gives the number of a refusal, its own or one that it is handed, has a line in the claim."""
     claimed, public = never_withdrawn(root), set()
     for place, cells in rows:
+        if len(cells) != 5:
+            continue
         name = cells[0].strip("`").split("::")[-1].replace("_", "-")
         public.add(name)
-        if re.search(r"\d|own", cells[1]) and name not in claimed:
-            faults.append(f"{place}: {cells[0]} gives a number, and {WITHDRAWN} has no line for {name}")
+        gives = cells[0] in HANDED or re.search(r"\d|own", cells[1])
+        if gives and name not in claimed:
+            faults.append(f"{place}: {cells[0]} gives the number of a refusal, and {WITHDRAWN} has no line for {name}")
     for name in sorted(claimed - public):
         faults.append(f"{WITHDRAWN}: {name} is no public function")
 

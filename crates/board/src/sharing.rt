@@ -50,8 +50,8 @@ pub extern "C" fn arin_advertise(rows: &mut [Row], capacity: u16, port: u8) -> L
 
 // Judges a request word on the port's latest list. On success the port holds the power asked for: voltage times operating current, rounded
 // up to a half watt, at least 15 half watts, and for PPS at most its present power. On a refusal it holds what it held. 36 is given exactly
-// when the list allows the request and the other ports leave less than it would hold. Refusals: 30, 32, 37 (the first row at fault, or 0), 33, 35 (the row),
-// then 20, 23, 22, 24, 25, then 36 (the row).
+// when the list allows the request and the other ports leave less than it would hold. Reserved bits of the word are ignored, in what is
+// held too. Refusals: 30, 32, 37 (the first row at fault, or 0), 33, 35 (the row), then 20, 23, 22, 24, 25, then 36 (the row).
 #[no_mangle]
 pub extern "C" fn arin_request(rows: &mut [Row], capacity: u16, port: u8, word: u32) -> Verdict
     ensures { λ r. ⌜ SharesRequest (now (rows .entry)) capacity port word r (now (rows .exit)) ⌝ }

@@ -1,6 +1,6 @@
 -- The bits of a request that are ignored (STATEMENT, "Answering a request": "A reserved bit of a request is ignored, set or clear, and so is
--- a bit that is not examined"). No definition of an answer looks at them. That requests which agree in all other bits get the same answer
--- is claimed over the contracts in demands, Ignored; no contract cites this page.
+-- a bit that is not examined"). They change no answer: that requests which agree in all other bits get the same one is claimed over the
+-- contracts in demands, Ignored. No contract cites this page.
 -- Assumes nothing.
 use mathlib.Core.Path.{_≡_}
 use mathlib.Core.Bool.{Bool, true, not, _&&_, cond}

@@ -7,8 +7,8 @@ use lists::Words;
 use objects::Decoded;
 use verdicts::Verdict;
 
-// Whether a request word may be accepted on the list that was advertised. Refusals: those of `lists::shape`, with their places; then 20,
-// 23, 22, 24, 25, with place 0.
+// Whether a request word may be accepted on the list that was advertised. Reserved bits of the word are ignored. Refusals: those of
+// `lists::shape`, with their places; then 20, 23, 22, 24, 25, with place 0.
 pub fn answer(list: Words, word: u32) -> Verdict
     ensures { λ r. ⌜ AnswersRequest list word r ⌝ }
 {

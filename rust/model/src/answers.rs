@@ -20,7 +20,7 @@ pub const AVS_DIFFERS: u8 = 17;
 pub const WRONG_SET: u8 = 18;
 pub const CURRENT: u8 = 19;
 pub const POSITION: u8 = 20;
-// 21 is withdrawn (T-01): "no call gives it, and no other refusal will have it".
+// 21 is withdrawn (T-01): "no other refusal will have it".
 pub const OUT_OF_RANGE: u8 = 22;
 pub const NOT_WHOLE: u8 = 23;
 pub const OPERATING: u8 = 24;

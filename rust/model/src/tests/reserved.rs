@@ -1,6 +1,7 @@
-//! "A reserved bit is ignored, set or clear, and so is a bit that is not examined (T-01): two
-//! requests that differ in no other bit get the same answer, and on a shared port they leave the
-//! same rows."
+//! "A reserved bit of a request is ignored, set or clear, and so is a bit that is not examined
+//! (T-01). Two requests to the same object that differ in no other bit get the same answer on the
+//! same list; asked of the same port of the same rows they get the same answer and leave the same
+//! rows."
 
 use super::*;
 
