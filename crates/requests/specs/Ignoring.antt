@@ -37,7 +37,7 @@ belowPosition =
     27 ∷ 26 ∷ 25 ∷ 24 ∷ 23 ∷ 22 ∷ 21 ∷ 20 ∷ 19 ∷ 18 ∷ 17 ∷ 16 ∷ 15 ∷ 14
     ∷ 13 ∷ 12 ∷ 11 ∷ 10 ∷ 9 ∷ 8 ∷ 7 ∷ 6 ∷ 5 ∷ 4 ∷ 3 ∷ 2 ∷ 1 ∷ 0 ∷ []
 
--- by what the word that is named stands for
+-- by what the word that is named stands for; where that is no object, the list is refused whatever is asked
 abbrev pub ignoredFor : Decoded → List ℕ
 ignoredFor (Known o) = ignoredBy o
 ignoredFor NotAllowed = belowPosition
