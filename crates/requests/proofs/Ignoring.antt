@@ -12,6 +12,7 @@ use borrow.Author.Tests.{ltb-true, ne-eqb}
 use lib.ListN.{getD}
 use Rattle.verdicts.specs.Refusals.{Refusal, refusal, firstOf, verdict, success, verdictOf}
 use Rattle.verdicts.proofs.First.{hit, onward}
+use Rattle.steps.specs.Ranges.{within}
 use Rattle.steps.specs.Units.{mv25, ma10, ma50}
 use Rattle.objects.specs.Bits.{bits}
 use Rattle.objects.specs.declared.Object.{Object}
@@ -195,3 +196,26 @@ answer-ignores l w v same =
     whole w ∙ told-ignores verdict l w v same (λ n. []) (λ n. success) (λ u. 0) (λ agree. refl) ∙ sym (whole v) where
       whole : (u : ℕ) → verdictOf (answerRefusals l u) ≡ verdictOf (answerRefusals l u ++ [])
       whole u = ap verdictOf (sym (append-nil (answerRefusals l u)))
+
+-- ---- nothing is left out: every place of a word is ignored, or belongs to a field that counts
+
+abbrev everyPlace : (ℕ → Bool) → ℕ → Bool
+everyPlace test zero = true
+everyPlace test (suc b) = test b && everyPlace test b
+
+-- the position, bit 26 and the two figures
+abbrev ofFigures : ℕ → Bool
+ofFigures b = within 28 31 b || (eqb b 26 || (within 10 19 b || within 0 9 b))
+
+-- the position, the voltage and the current
+abbrev ofVoltage : ℕ → Bool
+ofVoltage b = within 28 31 b || (within 9 20 b || within 0 6 b)
+
+pub figures-whole : everyPlace (λ b. ofFigures b || not (isNoneOf b besideFigures)) 32 ≡ true
+figures-whole = refl
+
+pub voltage-whole : everyPlace (λ b. ofVoltage b || not (isNoneOf b besideVoltage)) 32 ≡ true
+voltage-whole = refl
+
+pub position-whole : everyPlace (λ b. within 28 31 b || not (isNoneOf b belowPosition)) 32 ≡ true
+position-whole = refl
