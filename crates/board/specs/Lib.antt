@@ -1,3 +1,4 @@
 pub mod ListPromises
+pub mod MessagePromises
 pub mod Rows
 pub mod Promises

@@ -1,6 +1,7 @@
-// What firmware calls: the sharing calls over lent rows (docs/STATEMENT.md, "Ports that share") and every call on lists, each under
-// a C name that begins with `arin_`. `rt staticlib board` makes one archive of them.
+// What firmware calls: the sharing calls over lent rows (docs/STATEMENT.md, "Ports that share"), every call on lists, and whole
+// messages, each under a C name that begins with `arin_`. `rt staticlib board` makes one archive of them.
 mod listing;
+mod messaging;
 mod rows;
 mod sharing;
 
@@ -11,6 +12,9 @@ pub use listing::arin_default_profile;
 pub use listing::arin_read;
 pub use listing::arin_shape;
 pub use listing::arin_write;
+pub use messaging::arin_read_message;
+pub use messaging::arin_take_message;
+pub use messaging::arin_write_message;
 pub use sharing::arin_advertise;
 pub use sharing::arin_attach;
 pub use sharing::arin_detach;

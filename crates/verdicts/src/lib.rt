@@ -107,3 +107,21 @@ pub const NO_POWER_NOW: u8 = 36;
 // Ports that share: the rows are not as the calls leave them. The place is the first row at fault, or 0 where only the sum of what
 // they hold is above the capacity.
 pub const ROWS_NOT_SOUND: u8 = 37;
+
+// A message: there are fewer bytes than a header has, or not as many as its count makes.
+pub const MESSAGE_LENGTH: u8 = 40;
+
+// A message: its type is neither Source_Capabilities nor Request.
+pub const MESSAGE_TYPE: u8 = 41;
+
+// A message: it is an extended one.
+pub const EXTENDED_MESSAGE: u8 = 42;
+
+// Writing a message: a field of its header is too wide for its bits.
+pub const HEADER_FIELD_TOO_WIDE: u8 = 51;
+
+// Writing a message: the buffer is shorter than the message.
+pub const BUFFER_TOO_SHORT: u8 = 52;
+
+// A message: a Request does not have exactly one word.
+pub const REQUEST_COUNT: u8 = 53;

@@ -1,0 +1,82 @@
+// Reading: from bytes to a message.
+ghost use mathlib.Core.Path.{_≡_};
+ghost use Prim.Native.Nat.{_+_, _*_, _≤_};
+ghost use lib.ListN.{length};
+ghost use Rattle.messages.specs.Reading.{wordsIn, readingRefused};
+ghost use Rattle.messages.specs.Promises.{TakesMessage, ReadsMessage};
+use crate::Message;
+use crate::MessageReading;
+use crate::NO_MESSAGE;
+use crate::headers::header_of;
+use crate::headers::judge_header;
+use crate::headers::judge_list;
+use crate::low_first::half_of;
+use crate::low_first::word_of;
+use verdicts::Verdict;
+
+fn refuse(number: u8, place: u8) -> MessageReading
+    ensures { λ r. ⌜ r ≡ readingRefused number place ⌝ }
+{
+    MessageReading {
+        verdict: Verdict { number, place },
+        message: NO_MESSAGE,
+    }
+}
+
+// The words behind the header.
+fn words_in(bytes: &[u8], count: usize) -> [u32; 7]
+    requires { ⌜ (count ≤ 7) × (length (now bytes) ≡ 2 + 4 * count) ⌝ }
+    ensures { λ r. ⌜ r ≡ wordsIn (now (bytes .entry)) count ⌝ }
+{
+    let mut words = [0u32; 7];
+    let mut i = 0;
+    while i < count {
+        let at = 2 + 4 * i;
+        let end = at + 4;
+        words[i] = word_of(&bytes[at..end]);
+        i += 1;
+    }
+    words
+}
+
+// A message taken apart, whether its list has its shape or not. Refusals: 40, 42, 41, 53, with place 0.
+pub fn take_message(bytes: &[u8]) -> MessageReading
+    ensures { λ r. ⌜ TakesMessage (now (bytes .entry)) r ⌝ }
+{
+    if bytes.len() < 2 {
+        return refuse(verdicts::MESSAGE_LENGTH, 0);
+    }
+    let half = half_of(&bytes[0..2]);
+    let header = header_of(half);
+    let count = header.count as usize;
+    if bytes.len() != 2 + 4 * count {
+        return refuse(verdicts::MESSAGE_LENGTH, 0);
+    }
+    let verdict = judge_header(header);
+    if verdict.number != verdicts::SUCCESS {
+        return refuse(verdict.number, verdict.place);
+    }
+    let words = words_in(bytes, count);
+    MessageReading {
+        verdict,
+        message: Message { header, words },
+    }
+}
+
+// A message whose list, where it is a Source_Capabilities, has its shape. Refusals: 40, 42, 41, 53, with place 0; then for a
+// Source_Capabilities those of `lists::shape`, with their places.
+pub fn read_message(bytes: &[u8]) -> MessageReading
+    ensures { λ r. ⌜ ReadsMessage (now (bytes .entry)) r ⌝ }
+{
+    let taken = take_message(bytes);
+    let verdict = taken.verdict;
+    if verdict.number != verdicts::SUCCESS {
+        return taken;
+    }
+    let message = taken.message;
+    let shape = judge_list(message);
+    if shape.number != verdicts::SUCCESS {
+        return refuse(shape.number, shape.place);
+    }
+    taken
+}
