@@ -13,19 +13,19 @@ headerOf h =
       extended = bits h 15 15;
       count = bits h 14 12;
       id = bits h 11 9;
-      power_role = bits h 8 8;
+      «power_role» = bits h 8 8;
       revision = bits h 7 6;
-      data_role = bits h 5 5;
-      message_type = bits h 4 0;
+      «data_role» = bits h 5 5;
+      «message_type» = bits h 4 0;
     }
 
 -- the fields at their bits, the lowest first
 abbrev pub fieldsOf : Header → List Field
 fieldsOf h =
-    field (h .message_type) 4 0
-    ∷ field (h .data_role) 5 5
+    field (h .«message_type») 4 0
+    ∷ field (h .«data_role») 5 5
     ∷ field (h .revision) 7 6
-    ∷ field (h .power_role) 8 8
+    ∷ field (h .«power_role») 8 8
     ∷ field (h .id) 11 9
     ∷ field (h .count) 14 12
     ∷ field (h .extended) 15 15

@@ -38,7 +38,7 @@ readingRefusals bs = takingRefusals bs ++ listRefusals (messageIn bs)
 abbrev pub noMessage : Message
 noMessage =
     record {
-      header = record { extended = 0; count = 0; id = 0; power_role = 0; revision = 0; data_role = 0; message_type = 0 };
+      header = record { extended = 0; count = 0; id = 0; «power_role» = 0; revision = 0; «data_role» = 0; «message_type» = 0 };
       words = replicate 7 0;
     }
 

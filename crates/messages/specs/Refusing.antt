@@ -12,10 +12,10 @@ use Rattle.messages.specs.declared.Message.{Message}
 
 -- "1 is Source_Capabilities, whose words are a list, and 2 is Request, whose one word is a request. The type field alone tells them"
 abbrev pub isSourceCapabilities : Header → Bool
-isSourceCapabilities h = eqb (h .message_type) 1
+isSourceCapabilities h = eqb (h .«message_type») 1
 
 abbrev pub isRequest : Header → Bool
-isRequest h = eqb (h .message_type) 2
+isRequest h = eqb (h .«message_type») 2
 
 -- "extended set (42), a type that is neither 1 nor 2 (41), a Request whose count is not 1 (53)"
 abbrev pub headerRefusals : Header → List Refusal

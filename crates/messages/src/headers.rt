@@ -1,7 +1,7 @@
 // The header: its seven fields at their bit places, and what is refused by it alone.
 ghost use mathlib.Core.Path.{_≡_};
 ghost use mathlib.Core.Bool.{true, not};
-ghost use Rattle.verdicts.specs.Refusals.{verdictOf};
+ghost use Rattle.verdicts.specs.Refusals.{verdict, verdictOf};
 ghost use Rattle.objects.specs.Layout.{allFit, joined};
 ghost use Rattle.messages.specs.Headers.{headerOf, fieldsOf};
 ghost use Rattle.messages.specs.Refusing.{headerRefusals, listRefusals};
@@ -65,7 +65,9 @@ pub(crate) fn half_of_header(header: Header) -> u32
         | ((header.extended as u32) << 15)
 }
 
-fn placeless(number: u8) -> Verdict {
+fn placeless(number: u8) -> Verdict
+    ensures { λ r. ⌜ r ≡ verdict number 0 ⌝ }
+{
     Verdict { number, place: 0 }
 }
 
