@@ -5,3 +5,6 @@ pub mod Refusals
 pub mod Parts
 pub mod Readings
 pub mod Writings
+pub mod RoundTrips
+pub mod Unread
+pub mod Accepted

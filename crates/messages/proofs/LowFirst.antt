@@ -22,7 +22,7 @@ four-whole w l = whole w (fourFields 0 0 0 0) refl l
 
 -- the number that bytes make has these bytes
 module _ (a b : ℕ) (ha : a < 2 ^ 8) (hb : b < 2 ^ 8) where
-  two-fit : allFit (twoFields a b) ≡ true
+  pub two-fit : allFit (twoFields a b) ≡ true
   two-fit = simp (lt-ltb a (2 ^ 8) ha, lt-ltb b (2 ^ 8) hb)
 
   pub two-parted : twoBytes (joined (twoFields a b)) ≡ a ∷ b ∷ []

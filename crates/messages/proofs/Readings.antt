@@ -19,7 +19,7 @@ use Rattle.messages.proofs.Refusals.{list-numbered}
 
 -- ---- 40
 
-abbrev wrongLength : List ℕ → Bool
+abbrev pub wrongLength : List ℕ → Bool
 wrongLength bs = ltb (length bs) 2 || not (eqb (length bs) (lengthOf (headerIn bs)))
 
 module _ (bs : List ℕ) where
@@ -32,7 +32,7 @@ module _ (bs : List ℕ) where
   other-length e = hit readingRefused (readAs bs) 40 0 _ (simp (ne-eqb (length bs) (lengthOf (headerIn bs)) e) (or-true (ltb (length bs) 2)))
 
   module _ (h : 2 ≤ length bs) (e : length bs ≡ lengthOf (headerIn bs)) where
-    right-length : wrongLength bs ≡ false
+    pub right-length : wrongLength bs ≡ false
     right-length = simp (le-ltb (length bs) 2 h, eq-eqb (length bs) (lengthOf (headerIn bs)) e)
 
     -- ---- 42, 41, 53
@@ -60,6 +60,10 @@ module _ (bs : List ℕ) where
   pub taken-verdict : takenOf bs .verdict ≡ verdictOf (takingRefusals bs)
   unfolding takenOf
   taken-verdict = said-first (λ (r : MessageReading). r .verdict) readingRefused (λ n p. refl) (takingRefusals bs) (readAs bs) refl
+
+  pub read-verdict : messageReadOf bs .verdict ≡ verdictOf (readingRefusals bs)
+  unfolding messageReadOf
+  read-verdict = said-first (λ (r : MessageReading). r .verdict) readingRefused (λ n p. refl) (readingRefusals bs) (readAs bs) refl
 
   none-taken : takenOf bs .verdict .number ≡ 0 → NoneApply (takingRefusals bs)
   none-taken z = none-applied (takingRefusals bs) taking-numbered (sym (ap (λ (v : Verdict). v .number) taken-verdict) ∙ z)
