@@ -6,11 +6,15 @@ What the page leaves open is decided in NOTES.md, under "The console".
 import sys
 
 import charger
-from charger import Avs, Battery, Fixed, Objects, Pps, Profile, Row, Variable, Words
+from charger import Avs, Battery, Fixed, Header, Message, Objects, Pps, Profile, Row, Variable, Words
 
 # "more than 512 bytes": the newline is not part of the line.
 LONGEST_LINE = 512
 MOST_ROWS = 9
+# of BYTES and of ROOM
+MOST_BYTES = 40
+UNTOUCHED = b"\xAA"
+NO_BYTE = "-"
 UNREADABLE = "?"
 
 DECIMAL_DIGITS = frozenset("0123456789")
@@ -76,10 +80,29 @@ class Fields:
             raise Unreadable
         return int(field, 16)
 
+    def seven_words(self):
+        return tuple(self.word() for _ in range(charger.PLACES_IN_A_LIST))
+
     def words(self):
         """A list: its count and all seven words, also where the count is less."""
-        count = self.byte()
-        return Words(count, tuple(self.word() for _ in range(charger.PLACES_IN_A_LIST)))
+        return Words(self.byte(), self.seven_words())
+
+    def some_bytes(self):
+        """Two hex digits for each byte, at most 40 bytes; `-` for no byte."""
+        field = self.take()
+        if field == NO_BYTE:
+            return b""
+        digits = len(field)
+        if not digits or digits % 2 or digits > 2 * MOST_BYTES or not HEX_DIGITS.issuperset(field):
+            raise Unreadable
+        return bytes(int(field[at : at + 2], 16) for at in range(0, digits, 2))
+
+    def header(self):
+        """EXT COUNT ID PROLE REV DROLE TYPE"""
+        return Header(*[self.byte() for _ in Header._fields])
+
+    def room(self):
+        return self.number(MOST_BYTES)
 
     def profile(self):
         return Profile(self.short(), self.short(), self.byte(), self.byte(), self.byte(), self.byte())
@@ -131,7 +154,25 @@ def said_power(answer):
     return said(answer, answer.value)
 
 
+def said_message(answer):
+    return said(answer, *answer.value.header, *["%08X" % word for word in charger.words_in(answer.value)])
+
+
+def said_written(answer):
+    length, buffer = answer.value
+    return said(answer, length, "".join("%02X" % byte for byte in buffer) or NO_BYTE)
+
+
 # -------------------------------------------------------------------- lines
+
+
+def write_message_into(header, room, words):
+    """Before the call the buffer is filled with AA; all of it is shown after
+    the call."""
+    buffer = bytearray(UNTOUCHED * room)
+    answer = charger.write_message(Message(header, words), buffer)
+    return answer._replace(value=(answer.value, buffer))
+
 
 # word: what its fields are, the call, what is said of its answer
 STATELESS_CALLS = {
@@ -142,6 +183,9 @@ STATELESS_CALLS = {
     "read": ((Fields.words,), charger.read, said_objects),
     "write": ((Fields.objects,), charger.write, said_words),
     "answer": ((Fields.words, Fields.word), charger.answer, said_nothing_more),
+    "readmsg": ((Fields.some_bytes,), charger.read_message, said_message),
+    "takemsg": ((Fields.some_bytes,), charger.take_message_apart, said_message),
+    "writemsg": ((Fields.header, Fields.room, Fields.seven_words), write_message_into, said_written),
 }
 
 # the same, for calls over the rows; the first field is the capacity

@@ -5,19 +5,21 @@
 The seed is fixed: the same files come out each time. Each file of inputs/ makes
 one kind of line; unreadable lines are strewn over all of them. At the end the
 lines are counted by refusal number. A number of the statement's table that was given
-fewer than 20 times fails the run, and so does one that the table does not have.
+fewer than 20 times fails the run, and so does one that the table does not have. The
+numbers of messages are counted for each call that gives them.
 """
 
 import sys
 from collections import Counter
 
-from inputs import ports, requests, rules, shapes
+from inputs import messages, ports, requests, rules, shapes
 from inputs.book import book
 from inputs.unreadable import STRANGE_LINES
 
 FEWEST = 20
 # Those of the statement's table: 21 is withdrawn.
-NUMBERS = [*range(1, 8), *range(10, 21), *range(22, 26), *range(30, 38)]
+NUMBERS = [*range(1, 8), *range(10, 21), *range(22, 26), *range(30, 38), *range(40, 43), *range(51, 54)]
+NUMBERS_OF_MESSAGES = {"readmsg": (40, 42, 41, 53), "takemsg": (40, 42, 41, 53), "writemsg": (51, 42, 41, 53, 52)}
 
 # A number is its value: leading zeros are read, up to 512 bytes of line.
 ODD_BUT_READABLE = (
@@ -60,6 +62,7 @@ def all_lines():
     rules.check_lines()
     requests.answer_lines()
     ports.port_lines()
+    messages.message_lines()
     # the end of the input in the middle of a line: this line has no newline
     book.put("build 72 72 3 0 1 0")
 
@@ -69,10 +72,12 @@ def count_lines():
     answer and is no number of the table."""
     by_number = Counter()
     by_call = Counter()
+    by_both = Counter()
     for given, answered in zip(book.given, book.answered):
         first = answered.split(" ")[0]
         by_number[first] += 1
         by_call["?" if first == "?" else given.split(" ")[0]] += 1
+        by_both[given.split(" ")[0], first] += 1
     print("lines in all: %d" % len(book.given))
     print("by call: " + ", ".join("%s %d" % pair for pair in sorted(by_call.items())))
     print("accepted (0): %d" % by_number["0"])
@@ -80,6 +85,9 @@ def count_lines():
     for number in NUMBERS:
         print("refusal %2d: %d" % (number, by_number[str(number)]))
     seldom = [number for number in NUMBERS if by_number[str(number)] < FEWEST]
+    for call, numbers in NUMBERS_OF_MESSAGES.items():
+        print("%s: %s" % (call, ", ".join("%d %d times" % (number, by_both[call, str(number)]) for number in numbers)))
+        seldom += ["%d of %s" % (number, call) for number in numbers if by_both[call, str(number)] < FEWEST]
     return seldom, sorted(set(by_number) - {"0", "?", "rows"} - {str(number) for number in NUMBERS})
 
 

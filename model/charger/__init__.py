@@ -38,6 +38,11 @@ from charger.requests import (
     request_position, is_mismatch, operating_figure, maximum_figure, requested_voltage, requested_current,
     judge_figures, judge_pps, avs_limit, judge_avs, granted, answer,
 )
+from charger.messages import (
+    Header, Message, HEADER_PLACES, BYTES_IN_A_HEADER, BYTES_IN_A_WORD, SOURCE_CAPABILITIES, REQUEST, NO_MESSAGE,
+    number_of_bytes, bytes_of_number, header_of, number_of_header, has_header_field_too_wide, message_length, words_in,
+    bytes_of_message, refuse_unhandled, refuse_bad_list, taken_apart, read_message, take_message_apart, write_message,
+)
 from charger.ports import (
     Row, LEAST_HELD, MOST_CAPACITY, emptied, is_attached, rule_list, all_held, left_for, is_sound, refuse_bad_table,
     refuse_unsound, refuse_bad_port, refuse_empty, advertised, request_power, set_up, attach, advertise, request,

@@ -21,7 +21,7 @@ def refuse_if(wrong, number, place=0):
 
 def public_call(zero):
     """Success is 0 at place 0. On a refusal everything else in the answer is
-    zero, a list is empty."""
+    zero, a list is empty, a message is all zeros."""
 
     def public(judge):
         @wraps(judge)

@@ -40,6 +40,23 @@ def said_write(objects, count=None):
     return " ".join(["write", str(count)] + [said_object(obj) for obj in objects])
 
 
+def said_bytes(some):
+    """Two hex digits for each byte, small or capital or mixed; `-` for no byte."""
+    digits = bytes(some).hex().upper() or "-"
+    way = rng.random()
+    if way < 0.2:
+        return digits.lower()
+    if way < 0.4:
+        return "".join(rng.choice((digit, digit.lower())) for digit in digits)
+    return digits
+
+
+def said_write_message(header, room, words):
+    """A header, a room and seven words."""
+    seven = list(words) + [past_the_count() for _ in range(7 - len(words))]
+    return " ".join(["writemsg"] + [str(figure) for figure in (*header, room)] + [hex_of(word) for word in seven])
+
+
 def words_of(objects):
     return [charger.encode(obj) for obj in objects]
 

@@ -3,5 +3,8 @@
 import random
 
 SEED = 20040101
+# A part that begins from a seed of its own stays as it is when a part before it
+# changes.
+SEED_OF_MESSAGES = 20040102
 
 rng = random.Random(SEED)

@@ -24,6 +24,22 @@ hello
 ?"""
 
 
+ZEROS = " 00000000" * 6
+EXAMPLES_OF_MESSAGES = (
+    ("readmsg 821245150540", "0 0 0 1 1 0 2 0 2 40051545"),
+    ("readmsg A1212C9101002cd10200", "0 0 0 2 0 1 2 1 1 0001912C 0002D12C"),
+    ("readmsg 8212451505", "40 0 0 0 0 0 0 0 0"),
+    ("readmsg -", "40 0 0 0 0 0 0 0 0"),
+    ("readmsg 821", "?"),
+    ("readmsg A1212CD102002C910100", "11 1 0 0 0 0 0 0 0"),
+    ("takemsg A1212CD102002C910100", "0 0 0 2 0 1 2 1 1 0002D12C 0001912C"),
+    ("writemsg 0 1 1 0 2 0 2 8 40051545" + ZEROS, "0 0 6 821245150540AAAA"),
+    ("writemsg 0 1 1 0 2 0 2 5 40051545" + ZEROS, "52 0 0 AAAAAAAAAA"),
+    ("writemsg 0 1 8 0 2 0 2 0 40051545" + ZEROS, "51 0 0 -"),
+    ("writemsg 0 1 1 0 2 0 2 41 40051545" + ZEROS, "?"),
+)
+
+
 def served(given):
     sink = io.BytesIO()
     console.serve(io.BytesIO(given), sink)
@@ -49,3 +65,33 @@ def test_console():
     expect("write", served(b"write 1 F 127 3 100 300"), b"0 0 1 3FB1912C\n")
     expect("write too wide", served(b"write 1 F 128 3 100 300"), b"7 1 0\n")
     expect("write none", served(b"write 9"), b"10 0 0\n")
+
+
+def test_lines_of_messages():
+    for line, answer in EXAMPLES_OF_MESSAGES:
+        expect(line, served(line.encode()).decode(), answer + "\n")
+    for line, answer in (
+        # small, capital or mixed; as many zeros in front as the line has room for
+        ("readmsg a1212c9101002Cd10200", "0 0 0 2 0 1 2 1 1 0001912C 0002D12C"),
+        ("takemsg aC10", "40 0 0 0 0 0 0 0 0"),
+        ("takemsg 0100", "0 0 0 0 0 0 0 0 1"),
+        ("readmsg 0100", "10 0 0 0 0 0 0 0 0"),
+        ("takemsg " + "00" * 40, "40 0 0 0 0 0 0 0 0"),
+        ("writemsg 00 01 001 0 2 0 02 0006 40051545" + ZEROS, "0 0 6 821245150540"),
+        ("writemsg 0 1 1 0 2 0 2 0 40051545" + ZEROS, "52 0 0 -"),
+        ("writemsg 0 1 1 0 2 0 2 40 40051545" + ZEROS, "0 0 6 821245150540" + "AA" * 34),
+        ("writemsg 255 255 255 255 255 255 255 1 40051545" + ZEROS, "51 0 0 AA"),
+    ):
+        expect(line, served(line.encode()).decode(), answer + "\n")
+    for line in (
+        "readmsg", "readmsg ", "readmsgx 8212", "read msg 8212", "readmsg8212", "readms 8212", "READMSG 8212",
+        "take 8212", "read 821245150540", "readmsg 8", "readmsg 821", "readmsg 821G", "readmsg 0x82", "readmsg --",
+        "readmsg -82", "readmsg 82 12", "readmsg 8212 ", "readmsg - ", "takemsg", "takemsg ", "takemsg " + "00" * 41,
+        "takemsg 0",
+        "writemsg", "write msg 0 1 1 0 2 0 2 8 40051545" + ZEROS, "writemsgx 0 1 1 0 2 0 2 8 40051545" + ZEROS,
+        "writemsg 0 1 1 0 2 0 2 8" + ZEROS, "writemsg 0 1 1 0 2 0 2 8 40051545 00000000" + ZEROS,
+        "writemsg 0 1 1 0 2 0 2 40051545" + ZEROS, "writemsg 0 256 1 0 2 0 2 8 40051545" + ZEROS,
+        "writemsg 0 1 1 0 2 0 256 8 40051545" + ZEROS, "writemsg 0 1 1 0 2 0 2 - 40051545" + ZEROS,
+        "writemsg 0 1 1 0 2 0 2 256 40051545" + ZEROS, "writemsg 0 1 1 0 2 0 2 8 4005154" + ZEROS,
+    ):
+        expect(line, served(line.encode()), b"?\n")

@@ -1,7 +1,7 @@
 """The cases of the statement: those worked by hand, and what the contracts settle."""
 
 import charger
-from charger import Avs, Battery, Fixed, NoKind, Pps, Profile, Row, Words
+from charger import Avs, Battery, Fixed, Header, Message, NoKind, Pps, Profile, Row, Words
 from tests.expecting import expect
 from tests.handling import (
     avs_built, figures, fixed_currents, list_of, objects_built, of_default, verdict, volts, words_built,
@@ -71,6 +71,31 @@ def test_shared_case():
     expect("remaining", charger.remaining(200, rows), (0, 0, 16))
 
 
+def test_messages_worked_by_hand():
+    six = (0x0001912C, 0x0002D12C, 0x0004B0F0, 0xE003C000, 0xC8DC323C, 0xC9403230)
+    for some, fields, words in (
+        (
+            "A1 61 2C 91 01 00 2C D1 02 00 F0 B0 04 00 00 C0 03 E0 3C 32 DC C8 30 32 40 C9",
+            dict(extended=0, count=6, id=0, power_role=1, revision=2, data_role=1, type=1),
+            six,
+        ),
+        (
+            "82 12 45 15 05 40",
+            dict(extended=0, count=1, id=1, power_role=0, revision=2, data_role=0, type=2),
+            (0x40051545,),
+        ),
+    ):
+        lent = bytes.fromhex(some)
+        message = Message(Header(**fields), words + (0,) * (7 - len(words)))
+        expect("read", charger.read_message(lent), (0, 0, message))
+        expect("taken apart", charger.take_message_apart(lent), (0, 0, message))
+        for more in (0, 1, 100):
+            buffer = bytearray(b"\x77" * (len(lent) + more))
+            expect("written", charger.write_message(message, buffer), (0, 0, len(lent)))
+            expect("its bytes, and those past it", buffer, lent + b"\x77" * more)
+    expect("the words of the first case", tuple(words_built(Profile(72, 72, 3, 0, 1, 0))), six)
+
+
 # ---------------------------------------------- "What the contracts settle"
 
 
@@ -137,6 +162,68 @@ def test_order_of_a_request():
         for asked in (word, word | reserved):
             expect(what, verdict(charger.answer(words, asked)), (number, 0))
             expect(what + ", before 36", verdict(charger.request(15, rows, 1, asked)), (number, 0))
+
+
+def test_order_of_a_message():
+    """All that comes later is at fault too, as far as a message can be. On a
+    refusal a message is all zeros, and no byte is written."""
+    for what, want, some in (
+        ("no byte", (40, 0), ""),
+        ("one byte", (40, 0), "83"),
+        ("40 before 42 and 41", (40, 0), "03 90"),
+        ("40 before 42 and 53", (40, 0), "02 A0 00 00 00 00"),
+        ("40 before 41", (40, 0), "03 00 00"),
+        ("40 before 53", (40, 0), "02 00 00"),
+        ("40 before 10", (40, 0), "01 00 00 00 00 00"),
+        ("40 before 11", (40, 0), "01 10 00 00 00 00 00"),
+        ("42 before 41", (42, 0), "03 80"),
+        ("42 before 53", (42, 0), "02 80"),
+        ("42 before 10", (42, 0), "01 80"),
+        ("42 before 11", (42, 0), "01 90 00 00 00 00"),
+        ("41, and a list for it would be 10", (41, 0), "00 00"),
+        ("41, and a Request would be 53", (41, 0), "03 20 00 00 00 00 00 00 00 00"),
+        ("41, whatever the low bits of the type", (41, 0), "11 10 2C 91 01 00"),
+        ("41, and so for a Request", (41, 0), "12 10 2C 91 01 00"),
+        ("53, and a list would be 10", (53, 0), "02 00"),
+        ("53, and a list would be 11", (53, 0), "02 20 00 00 00 00 00 00 00 00"),
+        ("53, and a list would pass", (53, 0), "02 20 2C 91 01 00 2C D1 02 00"),
+    ):
+        for call in (charger.read_message, charger.take_message_apart):
+            expect(what, call(bytes.fromhex(some)), want + (((0,) * 7, (0,) * 7),))
+    for want, some in (
+        ((10, 0), "01 00"),
+        ((11, 1), "01 10 00 00 00 00"),
+        ((12, 2), "01 20 2C 91 01 00 00 00 00 D0"),
+        ((14, 3), "01 30 2C 91 01 00 2C B1 04 00 2C D1 02 00"),
+    ):
+        expect("as shape", verdict(charger.read_message(bytes.fromhex(some))), want)
+        expect("not in taking apart", verdict(charger.take_message_apart(bytes.fromhex(some))), (0, 0))
+    first, bad = 0x0001912C, 0xFFFFFFFF
+    for what, want, fields, room, word in (
+        ("51 before all that follow", (51, 0), (2, 0, 0, 0, 0, 0, 34), 0, bad),
+        ("51 before 42", (51, 0), (1, 1, 8, 0, 0, 0, 2), 40, first),
+        ("51 before 41", (51, 0), (0, 1, 0, 2, 0, 0, 3), 40, first),
+        ("51 before 53", (51, 0), (0, 2, 0, 0, 4, 0, 2), 40, first),
+        ("51 before 52", (51, 0), (0, 1, 0, 0, 0, 2, 2), 5, first),
+        ("51 before 10", (51, 0), (0, 8, 0, 0, 0, 0, 1), 40, first),
+        ("51 before 11", (51, 0), (0, 1, 0, 0, 0, 0, 33), 40, bad),
+        ("42 before 41, 52", (42, 0), (1, 1, 0, 0, 0, 0, 3), 0, bad),
+        ("42 before 53, 52", (42, 0), (1, 2, 0, 0, 0, 0, 2), 0, bad),
+        ("42 before 52, 11", (42, 0), (1, 1, 0, 0, 0, 0, 1), 0, bad),
+        ("42 before 11", (42, 0), (1, 1, 0, 0, 0, 0, 1), 6, bad),
+        ("41 before 52", (41, 0), (0, 1, 0, 0, 0, 0, 3), 5, bad),
+        ("53 before 52", (53, 0), (0, 0, 0, 0, 0, 0, 2), 1, bad),
+        ("53 before 52 of a larger count", (53, 0), (0, 7, 0, 0, 0, 0, 2), 6, bad),
+        ("52 before 10", (52, 0), (0, 0, 0, 0, 0, 0, 1), 1, bad),
+        ("52 before 11", (52, 0), (0, 1, 0, 0, 0, 0, 1), 5, bad),
+        ("10", (10, 0), (0, 0, 0, 0, 0, 0, 1), 2, first),
+        ("11", (11, 1), (0, 1, 0, 0, 0, 0, 1), 6, bad),
+        ("the second word", (12, 2), (0, 2, 0, 0, 0, 0, 1), 10, first),
+    ):
+        buffer = bytearray(range(1, room + 1))
+        answer = charger.write_message(Message(Header(*fields), (word,) + (bad,) * 6), buffer)
+        expect(what, answer, want + (0,))
+        expect(what + ", no byte written", buffer, bytes(range(1, room + 1)))
 
 
 def test_objects_of_no_kind():
