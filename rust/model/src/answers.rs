@@ -33,6 +33,12 @@ pub const IN_USE: u8 = 34;
 pub const NOT_ATTACHED: u8 = 35;
 pub const NO_POWER: u8 = 36;
 pub const NOT_SOUND: u8 = 37;
+pub const LENGTH: u8 = 40;
+pub const MESSAGE_TYPE: u8 = 41;
+pub const EXTENDED: u8 = 42;
+pub const HEADER_TOO_WIDE: u8 = 51;
+pub const BUFFER: u8 = 52;
+pub const REQUEST_COUNT: u8 = 53;
 
 pub fn refuse<T>(number: u8, place: u8) -> Result<T, Verdict> {
     Err(Verdict { number, place })

@@ -43,7 +43,7 @@ pub fn raise(flat: &FlatObject) -> Option<Object> {
 
 pub fn flat_read(list: &Words) -> FlatReading {
     let mut places = [FlatObject::default(); 7];
-    match scan(list, |at, object| places[at] = flatten(&object)) {
+    match scan(&list.words, list.count, |at, object| places[at] = flatten(&object)) {
         Ok(()) => FlatReading {
             verdict: Verdict::default(),
             list: FlatObjects { places, count: list.count },

@@ -7,6 +7,7 @@
 mod answers;
 mod flat;
 mod lists;
+mod messages;
 mod ports;
 mod requests;
 mod rules;
@@ -17,6 +18,7 @@ mod words;
 
 pub use flat::{flat_read, flat_write, flatten, raise};
 pub use lists::{read, shape, write};
+pub use messages::{read_message, take_message, write_message};
 pub use ports::{advertise, attach, detach, remaining, request, set_up};
 pub use requests::{answer, judge, position, take_apart};
 pub use rules::{build, check, default_profile};
@@ -150,4 +152,40 @@ pub struct Asked {
     pub position: u8,
     pub mismatch: bool,
     pub request: Request,
+}
+
+/// The fields of a message's header, from its highest bit down.
+#[derive(Clone, Copy, Debug, PartialEq, Eq, Default)]
+#[repr(C)]
+pub struct Header {
+    pub extended: u8,
+    pub count: u8,
+    pub id: u8,
+    pub power_role: u8,
+    pub revision: u8,
+    pub data_role: u8,
+    pub message_type: u8,
+}
+
+/// "There is one count, the header's".
+#[derive(Clone, Copy, Debug, PartialEq, Eq, Default)]
+#[repr(C)]
+pub struct Message {
+    pub header: Header,
+    pub words: [u32; 7],
+}
+
+#[derive(Clone, Copy, Debug, PartialEq, Eq, Default)]
+#[repr(C)]
+pub struct MessageReading {
+    pub verdict: Verdict,
+    pub message: Message,
+}
+
+/// The length in bytes.
+#[derive(Clone, Copy, Debug, PartialEq, Eq, Default)]
+#[repr(C)]
+pub struct Written {
+    pub verdict: Verdict,
+    pub length: u8,
 }

@@ -19,12 +19,17 @@ const MOST_PRODUCT: u32 = 200_000;
 pub const NOTHING: Object = Object::Fixed { flags: 0, peak: 0, volts: 0, current: 0 };
 
 pub fn shape(list: &Words) -> Verdict {
-    verdict(scan(list, |_, _| {}))
+    verdict(try_shape(&list.words, list.count))
+}
+
+/// The shape check of a list whose words and count stand apart, as in a message.
+pub fn try_shape(words: &[u32; 7], count: u8) -> Result<(), Verdict> {
+    scan(words, count, |_, _| {})
 }
 
 pub fn read(list: &Words) -> Reading {
     let mut places = [NOTHING; 7];
-    match scan(list, |at, object| places[at] = object) {
+    match scan(&list.words, list.count, |at, object| places[at] = object) {
         Ok(()) => {
             Reading { verdict: Verdict::default(), list: Objects { places, count: list.count } }
         }
@@ -75,10 +80,14 @@ fn check_count(count: u8) -> Result<(), Verdict> {
 }
 
 /// The shape check, handing each object on with its index.
-pub fn scan(list: &Words, mut keep: impl FnMut(usize, Object)) -> Result<(), Verdict> {
-    check_count(list.count)?;
+pub fn scan(
+    words: &[u32; 7],
+    count: u8,
+    mut keep: impl FnMut(usize, Object),
+) -> Result<(), Verdict> {
+    check_count(count)?;
     let mut scan = Scan::new();
-    for (at, &word) in list.words[..usize::from(list.count)].iter().enumerate() {
+    for (at, &word) in words[..usize::from(count)].iter().enumerate() {
         let place = at as u8 + 1;
         let Some(object) = decode(word) else {
             return refuse_kind(place);

@@ -2,11 +2,11 @@
 
 use crate::Object;
 
-fn take(word: u32, low: u32, width: u32) -> u16 {
+pub fn take(word: u32, low: u32, width: u32) -> u16 {
     (word >> low & ((1 << width) - 1)) as u16
 }
 
-fn put(figure: impl Into<u32>, low: u32, width: u32) -> Option<u32> {
+pub fn put(figure: impl Into<u32>, low: u32, width: u32) -> Option<u32> {
     let figure = figure.into();
     if figure >> width != 0 {
         return None;

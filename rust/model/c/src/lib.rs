@@ -3,18 +3,30 @@
 #![no_std]
 
 use model::{
-    FlatObjects, FlatReading, Listing, Profile, Profiled, RemainingPower, Row, Verdict, Words,
+    FlatObjects, FlatReading, Listing, Message, MessageReading, Profile, Profiled, RemainingPower,
+    Row, Verdict, Words, Written,
 };
 
-/// As the library has it: a count of zero is no row, whatever the pointer.
+/// As the library has it: a count of zero is no row and no byte, whatever the pointer.
 ///
 /// # Safety
-/// For a count above zero, `rows` points to that many rows, which nothing else reads or writes during the call.
-unsafe fn lent<'a>(rows: *mut Row, count: usize) -> &'a mut [Row] {
-    if count == 0 || rows.is_null() {
+/// For a count above zero, `first` points to that many rows or bytes, which nothing else reads or writes during the call.
+unsafe fn lent<'a, T>(first: *mut T, count: usize) -> &'a mut [T] {
+    if count == 0 || first.is_null() {
         return &mut [];
     }
-    unsafe { core::slice::from_raw_parts_mut(rows, count) }
+    unsafe { core::slice::from_raw_parts_mut(first, count) }
+}
+
+/// `lent`, of bytes that are only read.
+///
+/// # Safety
+/// For a count above zero, `bytes` points to that many bytes, which nothing writes during the call.
+unsafe fn lent_to_read<'a>(bytes: *const u8, count: usize) -> &'a [u8] {
+    if count == 0 || bytes.is_null() {
+        return &[];
+    }
+    unsafe { core::slice::from_raw_parts(bytes, count) }
 }
 
 #[no_mangle]
@@ -53,7 +65,28 @@ pub extern "C" fn model_answer(list: &Words, word: u32) -> Verdict {
 }
 
 /// # Safety
+/// As `lent_to_read` says, here and in the next call.
+#[no_mangle]
+pub unsafe extern "C" fn model_read_message(bytes: *const u8, count: usize) -> MessageReading {
+    model::read_message(unsafe { lent_to_read(bytes, count) })
+}
+
+#[no_mangle]
+pub unsafe extern "C" fn model_take_message(bytes: *const u8, count: usize) -> MessageReading {
+    model::take_message(unsafe { lent_to_read(bytes, count) })
+}
+
+/// # Safety
 /// As `lent` says, here and in the calls below.
+#[no_mangle]
+pub unsafe extern "C" fn model_write_message(
+    bytes: *mut u8,
+    count: usize,
+    message: &Message,
+) -> Written {
+    model::write_message(unsafe { lent(bytes, count) }, message)
+}
+
 #[no_mangle]
 pub unsafe extern "C" fn model_set_up(rows: *mut Row, count: usize, capacity: u16) -> Verdict {
     model::set_up(unsafe { lent(rows, count) }, capacity)
