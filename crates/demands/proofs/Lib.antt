@@ -3,6 +3,7 @@ pub mod EnumRefusals
 pub mod FlatRefusals
 pub mod SharingRefusals
 pub mod DecidingRefusals
+pub mod MessageRefusals
 pub mod ManyRows
 pub mod Withdrawn
 pub mod NoKindOrder
@@ -19,6 +20,7 @@ pub mod RequestNumbers
 pub mod Ignored
 pub mod At15V
 pub mod MarkedCases
+pub mod Messages
 pub mod SoundRows
 pub mod Kept
 pub mod Demand3
@@ -26,6 +28,7 @@ pub mod BuiltLists
 pub mod DueAnswers
 pub mod OneOutcome
 pub mod FlatOutcomes
+pub mod MessageOutcomes
 pub mod RightLibrary
 pub mod NoCurrent
 pub mod WrongLibraries

@@ -17,6 +17,8 @@ use Rattle.lines.specs.Text.{hexWord}
 use Rattle.printed.specs.Printed.{printedOf}
 use Rattle.requests.specs.Limits.{avsTop, avsLimit}
 use Rattle.requests.specs.Answering.{answerOf}
+use Rattle.messages.specs.Reading.{messageReadOf}
+use Rattle.messages.specs.Writing.{writtenOf, bufferAfter}
 use Rattle.ports.specs.Rows.{together, besides, emptied, presentFor, offering, holding}
 use Rattle.ports.specs.Soundness.{soundRow}
 use Rattle.ports.specs.RuleLists.{rulePps, ruleProfile}
@@ -25,5 +27,5 @@ use Rattle.ports.specs.Lending.{setUpAnswer, setUpRows, attachAnswer, attachRow
 use Rattle.demands.specs.MarkedCases.{MarkedCases}
 
 pub marked-cases : MarkedCases
-unfolding printedOf hexWord firstOf eachPlace bits decodeOf reservedSet outOfBounds over100W mayFollow isFixed5V hasFixed avsDiffers avsTop avsLimit answerOf sevenTo downOf upOf wordOf defaultOf baseSlots progSlots builtCurrent progCurrent objectFor builtOf together besides emptied presentFor offering holding soundRow rulePps ruleProfile powerOf heldFor setUpAnswer setUpRows attachAnswer attachRows advertiseAnswer advertiseRows requestAnswer requestRows
+unfolding printedOf hexWord firstOf eachPlace bits decodeOf reservedSet outOfBounds over100W mayFollow isFixed5V hasFixed avsDiffers avsTop avsLimit answerOf sevenTo downOf upOf wordOf defaultOf baseSlots progSlots builtCurrent progCurrent objectFor builtOf together besides emptied presentFor offering holding soundRow rulePps ruleProfile powerOf heldFor setUpAnswer setUpRows attachAnswer attachRows advertiseAnswer advertiseRows requestAnswer requestRows messageReadOf writtenOf bufferAfter
 marked-cases = refl

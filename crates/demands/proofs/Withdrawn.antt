@@ -5,6 +5,7 @@ use mathlib.Core.Bool.{Bool, true, false, not}
 use mathlib.Core.List.{List, [], _∷_}
 use Prim.Native.Nat.{ℕ}
 use lib.Dec.{eqb}
+use lib.ListN.{length}
 use native.Mathlib.Omega.{arith}
 use borrow.Author.Tests.{eqb-true, eqb-false}
 use Rattle.verdicts.specs.declared.Verdict.{Verdict}
@@ -31,6 +32,10 @@ use Rattle.ports.specs.Deciding.{attachEndRefusals, useEndRefusals, requestEndR
 use Rattle.ports.proofs.Passing.{set-up-numbered, attach-numbered, use-numbered, request-numbered, remaining-numbered}
 use Rattle.ports.proofs.Standings.{row-numbered}
 use Rattle.ports.proofs.ByValue.{end-without, attach-without, use-without, request-without}
+use Rattle.messages.specs.Reading.{takingRefusals, readingRefusals}
+use Rattle.messages.specs.Writing.{writingRefusals}
+use Rattle.messages.proofs.Readings.{taking-numbered, reading-numbered}
+use Rattle.messages.proofs.Writings.{writing-numbered}
 use Rattle.flat.specs.Writing.{encodedFlatAt, flatWriteRefusals}
 use Rattle.demands.specs.CallContracts.{TakeRowAnswers}
 use Rattle.demands.specs.Refusals.{Answers}
@@ -40,6 +45,7 @@ use Rattle.demands.specs.Withdrawn.{Not21, Never21}
 use Rattle.demands.proofs.Refusals.{shape-refusals, read-refusals, write-refusals, default-refusals, build-refusals, check-refusals, answer-refusals, judge-refusals}
 use Rattle.demands.proofs.EnumRefusals.{decode-12, encode-7, fixed-word-7, pps-word-7, avs-word-7, word-at-20, raise-12}
 use Rattle.demands.proofs.FlatRefusals.{flat-read-refusals, flat-write-refusals}
+use Rattle.demands.proofs.MessageRefusals.{take-message-refusals, read-message-refusals, write-message-refusals, arin-take-message-refusals, arin-read-message-refusals, arin-write-message-refusals}
 use Rattle.demands.proofs.SharingRefusals.{set-up-refusals, attach-refusals, advertise-refusals, request-refusals, detach-refusals, remaining-refusals}
 use Rattle.demands.proofs.DecidingRefusals.{begin-refusals, take-row-refusals, attach-decides, advertise-decides, offer-refusals, request-decides, detach-decides, remaining-decides}
 
@@ -97,6 +103,10 @@ never-21 = record {
   check = λ p l r e. not-numbered r (checkRefusals p l) (check-refusals p l r e) (check-numbered p l);
   judge = λ o w r e. not-numbered r (refusalsOf o w) (judge-refusals o w r e) (judged-numbered o w);
   answer = λ l w r e. not-numbered r (answerRefusals l w) (answer-refusals l w r e) (answer-numbered l w);
+  take-message = λ bs r e. not-numbered (r .verdict) (takingRefusals bs) (take-message-refusals bs r e .0) (taking-numbered bs);
+  read-message = λ bs r e. not-numbered (r .verdict) (readingRefusals bs) (read-message-refusals bs r e .0) (reading-numbered bs);
+  write-message = λ bs m r cs e.
+      not-numbered (r .verdict) (writingRefusals (length bs) m) (write-message-refusals bs m r cs e .0) (writing-numbered (length bs) m);
   begin = λ count capacity r e. not-numbered (r .fault) (tableRefusals (capacity .0) count) (begin-refusals count capacity r e .0) refl;
   take-row = take-row-21;
   attach = λ s y capacity port cable r e other.
@@ -131,6 +141,10 @@ never-21 = record {
   arin-write = λ f r e.
       not-numbered (r .verdict) (flatWriteRefusals f) (flat-write-refusals f r e .0) (write-numbered (encodedFlatAt (f .places)) (f .count));
   arin-answer = λ l w r e. not-numbered r (answerRefusals l w) (answer-refusals l w r e) (answer-numbered l w);
+  arin-take-message = λ bs r e. not-numbered (r .verdict) (takingRefusals bs) (arin-take-message-refusals bs r e .0) (taking-numbered bs);
+  arin-read-message = λ bs r e. not-numbered (r .verdict) (readingRefusals bs) (arin-read-message-refusals bs r e .0) (reading-numbered bs);
+  arin-write-message = λ bs m r cs e.
+      not-numbered (r .verdict) (writingRefusals (length bs) m) (arin-write-message-refusals bs m r cs e .0) (writing-numbered (length bs) m);
   arin-set-up = λ ys capacity r zs e.
       not-numbered r (setUpRefusals capacity ys) (set-up-refusals ys capacity r zs e .0) (set-up-numbered capacity ys);
   arin-attach = λ ys capacity port cable r zs e.

@@ -11,6 +11,7 @@ pub mod EnumRefusals
 pub mod FlatRefusals
 pub mod SharingRefusals
 pub mod DecidingRefusals
+pub mod MessageRefusals
 pub mod ManyRows
 pub mod Withdrawn
 pub mod NoKindOrder
@@ -27,6 +28,8 @@ pub mod RequestNumbers
 pub mod Ignored
 pub mod At15V
 pub mod MarkedCases
+-- Whole messages (T-02): what is written reads back, and which bytes are touched
+pub mod Messages
 -- Demand 3, shared ports over whole runs: what holds after any calls, good or bad
 pub mod SoundRows
 pub mod Runs
@@ -36,6 +39,7 @@ pub mod DueAnswers
 -- What the contracts settle: one outcome for each input, and no wrong library
 pub mod OneOutcome
 pub mod FlatOutcomes
+pub mod MessageOutcomes
 pub mod Libraries
 pub mod WrongLibraries
 pub mod WrongInstances

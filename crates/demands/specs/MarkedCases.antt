@@ -3,8 +3,9 @@
 -- proofs/MarkedCases.antt proves `MarkedCases` by computation.
 -- Assumes nothing.
 use mathlib.Core.Path.{_≡_}
-use mathlib.Core.List.{List, [], _∷_, map}
+use mathlib.Core.List.{List, [], _∷_, _++_, map}
 use Prim.Native.Nat.{ℕ, _+_, _*_, _^_}
+use lib.ListN.{replicate}
 use Rattle.verdicts.specs.declared.Verdict.{Verdict}
 use Rattle.verdicts.specs.Refusals.{verdict, success}
 use Rattle.lists.specs.declared.Words.{Words}
@@ -14,16 +15,24 @@ use Rattle.rules.specs.Building.{builtOf}
 use Rattle.printed.specs.Ascii.{ascii}
 use Rattle.printed.specs.Printed.{printedOf}
 use Rattle.requests.specs.Answering.{answerOf}
+use Rattle.messages.specs.declared.Message.{Message}
+use Rattle.messages.specs.declared.MessageReading.{MessageReading}
+use Rattle.messages.specs.declared.Written.{Written}
+use Rattle.messages.specs.Reading.{messageReadOf}
+use Rattle.messages.specs.Writing.{writtenOf, bufferAfter}
 use Rattle.ports.specs.declared.Row.{Row}
 use Rattle.ports.specs.Lending.{setUpAnswer, setUpRows, attachAnswer, attachRows, advertiseAnswer, advertiseRows, requestAnswer, requestRows}
 
--- what the listing program prints; what a call answers: a list with its verdict, or a verdict alone; and the rows that a sharing
--- call leaves
+-- what the listing program prints; what a call answers: a list with its verdict, a verdict alone, a message, or a length; and what a
+-- call leaves: rows, or a buffer
 pub data Answer : Type 0 where
   printed : List ℕ → Answer
   listed : Listing → Answer
   judged : Verdict → Answer
+  message : MessageReading → Answer
+  wrote : Written → Answer
   left : List Row → Answer
+  buffer : List ℕ → Answer
 
 -- what the definition gives, and what was worked out by hand
 pub data Case : Type 0 where
@@ -74,6 +83,35 @@ at-130 = success-with (0x0001912C ∷ 0x0002D12C ∷ 0x0004B12C ∷ 0x00064145 �
 
 abbrev pub at-70 : Answer
 at-70 = success-with (0x0001912C ∷ 0x0002D12C ∷ 0x0004B0E9 ∷ 0x000640AF ∷ 0xE003A4AF ∷ 0 ∷ 0 ∷ []) 5
+
+-- the messages, and their bytes
+abbrev pub sent : Message
+sent =
+    record {
+      header = record { extended = 0; count = 6; id = 0; «power_role» = 1; revision = 2; «data_role» = 1; «message_type» = 1 };
+      words = 0x0001912C ∷ 0x0002D12C ∷ 0x0004B0F0 ∷ 0xE003C000 ∷ 0xC8DC323C ∷ 0xC9403230 ∷ 0 ∷ [];
+    }
+
+abbrev pub sent-bytes : List ℕ
+sent-bytes =
+    0xA1 ∷ 0x61 ∷ 0x2C ∷ 0x91 ∷ 0x01 ∷ 0x00 ∷ 0x2C ∷ 0xD1 ∷ 0x02 ∷ 0x00 ∷ 0xF0 ∷ 0xB0 ∷ 0x04 ∷ 0x00
+    ∷ 0x00 ∷ 0xC0 ∷ 0x03 ∷ 0xE0 ∷ 0x3C ∷ 0x32 ∷ 0xDC ∷ 0xC8 ∷ 0x30 ∷ 0x32 ∷ 0x40 ∷ 0xC9 ∷ []
+
+abbrev pub request : Message
+request =
+    record {
+      header = record { extended = 0; count = 1; id = 1; «power_role» = 0; revision = 2; «data_role» = 0; «message_type» = 2 };
+      words = 0x40051545 ∷ 0 ∷ 0 ∷ 0 ∷ 0 ∷ 0 ∷ 0 ∷ [];
+    }
+
+abbrev pub request-bytes : List ℕ
+request-bytes = 0x82 ∷ 0x12 ∷ 0x45 ∷ 0x15 ∷ 0x05 ∷ 0x40 ∷ []
+
+abbrev pub is-message : Message → Answer
+is-message m = message (record { verdict = success; message = m })
+
+abbrev pub is-length : ℕ → Answer
+is-length n = wrote (record { verdict = success; length = n })
 
 abbrev pub table : List Case
 table =
@@ -131,6 +169,13 @@ table =
     -- 9 V at 3 A it gets, and holds 54
     ∷ case (judged (requestAnswer 200 (two (port 5 130 36) (port 5 130 130)) 1 (fixed 2 300))) (judged success)
     ∷ case (left (requestRows 200 (two (port 5 130 36) (port 5 130 130)) 1 (fixed 2 300))) (left (two (port 5 130 54) (port 5 130 130)))
+    -- a Source_Capabilities with the six words of 36 W, and a Request: read, and written into a buffer of 30 bytes
+    ∷ case (message (messageReadOf sent-bytes)) (is-message sent)
+    ∷ case (wrote (writtenOf 30 sent)) (is-length 26)
+    ∷ case (buffer (bufferAfter (replicate 30 0xAA) sent)) (buffer (sent-bytes ++ replicate 4 0xAA))
+    ∷ case (message (messageReadOf request-bytes)) (is-message request)
+    ∷ case (wrote (writtenOf 30 request)) (is-length 6)
+    ∷ case (buffer (bufferAfter (replicate 30 0xAA) request)) (buffer (request-bytes ++ replicate 24 0xAA))
     ∷ []
 
 -- what the definitions give for the table is what the table says

@@ -34,6 +34,11 @@ use Rattle.flat.specs.declared.FlatObjects.{FlatObjects}
 use Rattle.flat.specs.declared.FlatReading.{FlatReading}
 use Rattle.flat.specs.declared.Raised.{Raised}
 use Rattle.flat.specs.Flat.{raisedSays}
+use Rattle.messages.specs.declared.Message.{Message}
+use Rattle.messages.specs.declared.MessageReading.{MessageReading}
+use Rattle.messages.specs.declared.Written.{Written}
+use Rattle.messages.specs.Promises.{TakesMessage, ReadsMessage, WritesMessage}
+use Rattle.board.specs.MessagePromises.{ArinTakesMessage, ArinReadsMessage, ArinWritesMessage}
 use Rattle.board.specs.Promises.{SharesSetUp, SharesAttach, SharesAdvertise, SharesRequest, SharesDetach, SharesRemaining}
 use Rattle.demands.specs.CallContracts.{DecodeAnswers, EncodeAnswers, FixedWordAnswers, PpsWordAnswers, AvsWordAnswers}
 use Rattle.demands.specs.CallContracts.{ShapeAnswers, ReadAnswers, RefuseAnswers, WriteAnswers}
@@ -66,6 +71,10 @@ pub record Never21 : Type 0 where
   -- requests
   pub judge : (o : Object) (w : ℕ) (r : Verdict) → JudgeAnswers o w r → Not21 (r .number)
   pub answer : (l : Words) (w : ℕ) (r : Verdict) → AnswerAnswers l w r → Not21 (r .number)
+  -- messages, whatever the bytes
+  pub take-message : (bs : List ℕ) (r : MessageReading) → TakesMessage bs r → Not21 (r .verdict .number)
+  pub read-message : (bs : List ℕ) (r : MessageReading) → ReadsMessage bs r → Not21 (r .verdict .number)
+  pub write-message : (bs : List ℕ) (m : Message) (r : Written) (cs : List ℕ) → WritesMessage bs m r cs → Not21 (r .verdict .number)
   -- ports, by value; a standing or a change that is handed in may have a refusal already, which is handed on
   pub begin : (count : ℕ) (capacity : HalfWatts) (r : Standing) → BeginAnswers count capacity r → Not21 (r .fault .number)
   pub take-row : (s : Standing) (y : Row) (place : ℕ) (fresh : Bool) (r : Standing) → TakeRowAnswers s y place fresh r
@@ -93,6 +102,10 @@ pub record Never21 : Type 0 where
   pub arin-read : (l : Words) (r : FlatReading) → ArinReadAnswers l r → Not21 (r .verdict .number)
   pub arin-write : (f : FlatObjects) (r : Listing) → ArinWriteAnswers f r → Not21 (r .verdict .number)
   pub arin-answer : (l : Words) (w : ℕ) (r : Verdict) → ArinAnswerAnswers l w r → Not21 (r .number)
+  -- board, messages
+  pub arin-take-message : (bs : List ℕ) (r : MessageReading) → ArinTakesMessage bs r → Not21 (r .verdict .number)
+  pub arin-read-message : (bs : List ℕ) (r : MessageReading) → ArinReadsMessage bs r → Not21 (r .verdict .number)
+  pub arin-write-message : (bs : List ℕ) (m : Message) (r : Written) (cs : List ℕ) → ArinWritesMessage bs m r cs → Not21 (r .verdict .number)
   -- board, over lent rows that can be anything
   pub arin-set-up : (ys : List Row) (capacity : ℕ) (r : Verdict) (zs : List Row) → SharesSetUp ys capacity r zs → Not21 (r .number)
   pub arin-attach : (ys : List Row) (capacity port cable : ℕ) (r : Listing) (zs : List Row) → SharesAttach ys capacity port cable r zs
