@@ -6,6 +6,7 @@ use lines::put_unreadable;
 use lines::put_verdict;
 use lines::take_number;
 use lines::take_objects;
+use lines::take_seven_words;
 use lines::take_small_number;
 use lines::take_word;
 use lists::Words;
@@ -47,27 +48,16 @@ fn take_profile(line: &[u8], at: usize) -> ProfileFields {
 // A list is typed as its count and all seven words, also where the count is less.
 fn take_list(line: &[u8], at: usize) -> WordFields {
     let count = take_small_number(line, at);
-    let a = take_word(line, count.next);
-    let b = take_word(line, a.next);
-    let c = take_word(line, b.next);
-    let d = take_word(line, c.next);
-    let e = take_word(line, d.next);
-    let f = take_word(line, e.next);
-    let g = take_word(line, f.next);
-    let words = [
-        a.value,
-        b.value,
-        c.value,
-        d.value,
-        e.value,
-        f.value,
-        g.value,
-    ];
+    let seven = take_seven_words(line, count.next);
+    let words = seven.values;
     let list = Words {
         words,
         count: count.value,
     };
-    WordFields { list, next: g.next }
+    WordFields {
+        list,
+        next: seven.next,
+    }
 }
 
 fn put_profile(out: &mut [u8; 4096], end: usize, profile: Profile) -> usize {

@@ -22,6 +22,11 @@ pub struct Word {
     pub next: usize,
 }
 
+pub struct SevenWords {
+    pub values: [u32; 7],
+    pub next: usize,
+}
+
 fn no_number() -> Number
     ensures { λ r. ⌜ r .value ≡ 0 ⌝ }
 {
@@ -38,7 +43,7 @@ fn no_word() -> Word {
     }
 }
 
-pub(crate) fn past_space(line: &[u8], at: usize) -> usize {
+pub fn past_space(line: &[u8], at: usize) -> usize {
     if line.len() <= at {
         return UNREADABLE;
     }
@@ -155,6 +160,19 @@ fn two_digits(line: &[u8], at: usize) -> u32
     high * 16 + low
 }
 
+// Two hex digits, small and capital letters alike; 256 where two do not stand there.
+pub fn hex_byte(line: &[u8], at: usize) -> u32
+    ensures { λ r. ⌜ r ≤ 256 ⌝ }
+{
+    if line.len() <= at {
+        return 256;
+    }
+    if line.len() - at < 2 {
+        return 256;
+    }
+    two_digits(line, at)
+}
+
 // 65536 where one of them is no hex digit.
 fn four_digits(line: &[u8], at: usize) -> u32
     requires { do ⌜ at + 4 ≤ (← ⟦line.len()⟧) ⌝ }
@@ -191,5 +209,29 @@ pub fn take_word(line: &[u8], at: usize) -> Word {
     Word {
         value: high * 65536 + low,
         next: start + 8,
+    }
+}
+
+// The words of a list or a message are typed all seven, also where fewer count.
+pub fn take_seven_words(line: &[u8], at: usize) -> SevenWords {
+    let a = take_word(line, at);
+    let b = take_word(line, a.next);
+    let c = take_word(line, b.next);
+    let d = take_word(line, c.next);
+    let e = take_word(line, d.next);
+    let f = take_word(line, e.next);
+    let g = take_word(line, f.next);
+    let values = [
+        a.value,
+        b.value,
+        c.value,
+        d.value,
+        e.value,
+        f.value,
+        g.value,
+    ];
+    SevenWords {
+        values,
+        next: g.next,
     }
 }

@@ -68,17 +68,22 @@ pub fn put_verdict(out: &mut [u8; 4096], end: usize, verdict: Verdict) -> usize 
     put_field(out, at, verdict.place as u16)
 }
 
+// As many words as count.
+pub fn put_words(out: &mut [u8; 4096], end: usize, words: [u32; 7], count: u8) -> usize {
+    let at = place_for(&*out, end, 63);
+    put_places(&mut *out, at, words, count)
+}
+
 // The count and as many words.
-fn put_words(out: &mut [u8; 4096], end: usize, list: Words) -> usize {
-    let count = put_field(out, end, list.count as u16);
-    let at = place_for(&*out, count, 63);
+fn put_list(out: &mut [u8; 4096], end: usize, list: Words) -> usize {
+    let at = put_field(out, end, list.count as u16);
     let words = list.words;
-    put_places(&mut *out, at, words, list.count)
+    put_words(out, at, words, list.count)
 }
 
 pub fn put_listing(out: &mut [u8; 4096], end: usize, listing: Listing) -> usize {
     let verdict = listing.verdict;
     let list = listing.list;
     let at = put_verdict(out, end, verdict);
-    put_words(out, at, list)
+    put_list(out, at, list)
 }
