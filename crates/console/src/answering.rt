@@ -1,5 +1,5 @@
-// Which call a line asks for. No name is the beginning of another, and whatever follows the name is looked at by the call's own
-// line function.
+// Which call a line asks for. A name that begins with another, as `readmsg` with `read`, is looked for before it; whatever follows the
+// name is looked at by the call's own line function.
 use crate::list_calls::answer_call_line;
 use crate::list_calls::build_line;
 use crate::list_calls::check_line;
@@ -18,6 +18,9 @@ use crate::table::Table;
 use crate::table::rows_line;
 use crate::table::table_line;
 use lines::put_unreadable;
+use message_lines::read_message_line;
+use message_lines::take_message_line;
+use message_lines::write_message_line;
 
 fn begins(line: &[u8], name: &[u8]) -> bool {
     if line.len() < name.len() {
@@ -45,6 +48,15 @@ fn answer_list_line(line: &[u8], out: &mut [u8; 4096], end: usize) -> usize {
     }
     if begins(line, b"check") {
         return check_line(line, 5, out, end);
+    }
+    if begins(line, b"readmsg") {
+        return read_message_line(line, 7, out, end);
+    }
+    if begins(line, b"takemsg") {
+        return take_message_line(line, 7, out, end);
+    }
+    if begins(line, b"writemsg") {
+        return write_message_line(line, 8, out, end);
     }
     if begins(line, b"read") {
         return read_line(line, 4, out, end);

@@ -1,10 +1,11 @@
 // The fields of a line. A field is read together with the one space before it, from the place where the last one ended.
 ghost use mathlib.Core.Path.{_≡_};
 ghost use Prim.Native.Nat.{_+_, _≤_, _<_};
+ghost use lib.ListN.{length};
 
 // Past the end of any line: nothing can be read from there. So a field that cannot be read makes the rest of its line
 // unreadable, and one look at where the last field ended tells whether the whole line was read.
-pub(crate) const UNREADABLE: usize = usize::MAX;
+pub const UNREADABLE: usize = usize::MAX;
 
 // What a field says, and where it ended.
 pub struct Number {
@@ -162,7 +163,8 @@ fn two_digits(line: &[u8], at: usize) -> u32
 
 // Two hex digits, small and capital letters alike; 256 where two do not stand there.
 pub fn hex_byte(line: &[u8], at: usize) -> u32
-    ensures { λ r. ⌜ r ≤ 256 ⌝ }
+    ensures bound { λ r. ⌜ r ≤ 256 ⌝ }
+    ensures there { λ r. ⌜ (r < 256 → at + 2 ≤ length (now (line .entry))) ⌝ }
 {
     if line.len() <= at {
         return 256;

@@ -7,6 +7,7 @@ mod text;
 pub use fields::Number;
 pub use fields::SevenWords;
 pub use fields::SmallNumber;
+pub use fields::UNREADABLE;
 pub use fields::Word;
 pub use fields::hex_byte;
 pub use fields::past_space;
