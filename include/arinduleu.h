@@ -1,6 +1,6 @@
 /*
  * Arinduleu: what a USB-C charger port advertises (SPR source capabilities with SPR AVS), the answers to the requests that come
- * back, and one supply shared by up to eight ports.
+ * back, the messages that both travel in, and one supply shared by up to eight ports.
  *
  * The same header serves two libraries with the same calls. Link one of them:
  *   - libboard.a, which `rt staticlib board` writes to target/staticlib, for x86-64;
@@ -8,8 +8,8 @@
  * tools/install.sh installs either of them, as libarinduleu.a, with this header.
  *
  * Answers. Any argument may be wrong: the answer is then a refusal, with its number and its place. All else in the answer is
- * zero, a list is empty, and no row is written. Success is number 0, place 0. Each call names its refusals in the order in which
- * they are looked for: the first that applies is given. Places count from 1; where no place is named it is 0.
+ * zero, a list is empty, and no row and no byte is written. Success is number 0, place 0. Each call names its refusals in the
+ * order in which they are looked for: the first that applies is given. Places count from 1; where no place is named it is 0.
  * arin_refusal_text has a sentence for each number.
  *
  * Lists. A list is seven places and a count. Places past the count come back as zero and are not read on the way in.
@@ -24,9 +24,18 @@
  *   - Port n is rows[n - 1].
  *   - Set up once. After that only the calls write the rows.
  *
+ * Bytes. The caller lends the bytes of a message, or the buffer for them, as a pointer and a length.
+ *   - For a length above zero the caller owes a pointer to that many bytes that nothing else touches during the call (where a
+ *     message is read: that nothing else writes). No library can check this.
+ *   - A length of zero is no bytes, whatever the pointer, null too. Reading refuses it with 40, and writing with 52 where nothing
+ *     before that applies.
+ *   - A null pointer with a length above zero is a fault of the caller. libarinduleu_c.a takes it for no bytes. libboard.a does
+ *     not look at the pointer, and what then happens is undefined.
+ *
  * For C99 and later, and C++11 and later.
  *
- * Nothing is allocated, nothing blocks, and no state is kept but the rows. Calls on different rows may run at the same time.
+ * Nothing is allocated, nothing blocks, and no state is kept but the rows. Calls on different rows, and on different bytes, may
+ * run at the same time.
  */
 #ifndef ARINDULEU_H
 #define ARINDULEU_H
@@ -36,9 +45,9 @@
 
 /* The version of the header, and of the library that it came with. */
 #define ARIN_VERSION_MAJOR 0
-#define ARIN_VERSION_MINOR 2
+#define ARIN_VERSION_MINOR 3
 #define ARIN_VERSION_PATCH 0
-#define ARIN_VERSION "0.2.0"
+#define ARIN_VERSION "0.3.0"
 
 /*
  * Stands before every call: an answer that nobody looks at is a slip, and GCC and clang warn of it. Other compilers see nothing.
@@ -70,8 +79,8 @@
 extern "C" {
 #endif
 
-/* The most words in a list, and the most rows in a call. */
-enum { ARIN_LIST_PLACES = 7, ARIN_MOST_ROWS = 8 };
+/* The most words in a list and in a message, the most rows in a call, and the most bytes of a message. */
+enum { ARIN_LIST_PLACES = 7, ARIN_MOST_ROWS = 8, ARIN_LONGEST_MESSAGE = 30 };
 
 /* The refusal numbers. There is no 8, and 21 is withdrawn: no call gives it, and it will not have another meaning. */
 enum arin_refusal {
@@ -120,7 +129,15 @@ enum arin_refusal {
     ARIN_PORT_IN_USE = 34,       /* the place is the row */
     ARIN_PORT_NOT_ATTACHED = 35, /* the place is the row */
     ARIN_NO_POWER_NOW = 36,      /* a good request, but the other ports hold the power; the place is the row */
-    ARIN_ROWS_NOT_SOUND = 37     /* the place is the first row at fault, or 0 when only the sum of what is held is */
+    ARIN_ROWS_NOT_SOUND = 37,    /* the place is the first row at fault, or 0 when only the sum of what is held is */
+
+    /* A message. The place is always 0. */
+    ARIN_MESSAGE_LENGTH = 40,        /* fewer bytes than a header, or not as many as its count makes */
+    ARIN_MESSAGE_TYPE = 41,          /* type not 1 or 2 */
+    ARIN_EXTENDED_MESSAGE = 42,      /* extended set */
+    ARIN_HEADER_FIELD_TOO_WIDE = 51, /* in writing, a field of the header too wide for its bits */
+    ARIN_BUFFER_TOO_SHORT = 52,      /* in writing, a buffer too short for the message */
+    ARIN_REQUEST_COUNT = 53          /* a Request whose count is not 1 */
 };
 
 /*
@@ -147,6 +164,12 @@ enum arin_kind {
     ARIN_KIND_VARIABLE = 2,
     ARIN_KIND_PPS = 3,
     ARIN_KIND_AVS = 4
+};
+
+/* The types of messages that are handled, for arin_header. */
+enum arin_message_type {
+    ARIN_SOURCE_CAPABILITIES = 1, /* its words are a list */
+    ARIN_REQUEST = 2              /* its one word is a request */
 };
 
 /* What a call answers. */
@@ -213,6 +236,36 @@ struct arin_flat_reading {
     struct arin_flat_objects list;
 };
 
+/*
+ * The header of a message, field by field. Message id, roles and revision are carried and not examined, but for their width in
+ * writing.
+ */
+struct arin_header {
+    uint8_t extended;     /* bit 15: 0 or 1; 1 is an extended message, which is refused */
+    uint8_t count;        /* bits 14..12: how many words follow, 0..7 */
+    uint8_t id;           /* bits 11..9: message id, 0..7 */
+    uint8_t power_role;   /* bit 8: 0 sink, 1 source */
+    uint8_t revision;     /* bits 7..6: 0..3; 2 stands for USB PD 3.x */
+    uint8_t data_role;    /* bit 5: 0 device (UFP), 1 host (DFP) */
+    uint8_t message_type; /* bits 4..0: one of arin_message_type; any other of 0..31 is refused */
+};
+
+/* A message. The count of its words is the header's. Those past it come back as zero and are not read on the way in. */
+struct arin_message {
+    struct arin_header header;
+    uint32_t words[ARIN_LIST_PLACES];
+};
+
+struct arin_message_reading {
+    struct arin_verdict verdict;
+    struct arin_message message;
+};
+
+struct arin_written {
+    struct arin_verdict verdict;
+    uint8_t length; /* how many bytes were written, 2..30; 0 on a refusal */
+};
+
 /* One port. Fill in max and pps before set-up; the calls see to the rest. */
 struct arin_row {
     uint16_t max;     /* port maximum, half watts, 15..200 */
@@ -274,6 +327,27 @@ ARIN_MUST_USE struct arin_listing arin_write(struct arin_flat_objects list);
  * Refusals: those of arin_shape, with their places; then 20, 23, 22, 24, 25.
  */
 ARIN_MUST_USE struct arin_verdict arin_answer(struct arin_words list, uint32_t word);
+
+/* ---- Messages: the header and the words as bytes, of each number the low byte first ---- */
+
+/*
+ * The message that these bytes are, all of them. The word of a Request is not judged: arin_answer and arin_request do that.
+ * Refusals: 40, 42, 41, 53; then for a Source_Capabilities those of arin_shape, with their places.
+ */
+ARIN_MUST_USE struct arin_message_reading arin_read_message(const uint8_t *bytes, size_t length);
+
+/*
+ * The same without the list check, so that a list whose shape fails can be looked at.
+ * Refusals: 40, 42, 41, 53.
+ */
+ARIN_MUST_USE struct arin_message_reading arin_take_message(const uint8_t *bytes, size_t length);
+
+/*
+ * Writes a message into a buffer of so many bytes, from the first on, and answers how many it took. A buffer of
+ * ARIN_LONGEST_MESSAGE bytes has room for each. What lies past the message stays as it was; on a refusal all of it does.
+ * Refusals: 51, 42, 41, 53, 52; then for a Source_Capabilities those of arin_shape, with their places.
+ */
+ARIN_MUST_USE struct arin_written arin_write_message(uint8_t *bytes, size_t length, struct arin_message message);
 
 /* ---- Ports that share: capacity is in half watts, from 15 times count to 1600, and the same in each call ---- */
 
