@@ -18,11 +18,16 @@ pub struct Stripped {
 }
 
 /// Words are shown in hex, which no derive does: `rust/src/words.rs` has these.
-const DEBUG_BY_HAND: [&str; 3] = ["lists::Words", "objects::Encoded", "rules::Placed"];
+const DEBUG_BY_HAND: [&str; 4] = [
+    "lists::Words",
+    "objects::Encoded",
+    "rules::Placed",
+    "messages::Message",
+];
 
-/// All zero is what an empty list, an empty place or a row before set-up has, and a measure of nothing. A profile that is all zero is
-/// refused, so it has no default. `rust/src/defaults.rs` has that of an object.
-const ZERO_BY_DEFAULT: [&str; 15] = [
+/// All zero is what an empty list, an empty place, no message or a row before set-up has, and a measure of nothing. A profile that is all
+/// zero is refused, so it has no default. `rust/src/defaults.rs` has that of an object.
+const ZERO_BY_DEFAULT: [&str; 17] = [
     "verdicts::Verdict",
     "steps::Mv20",
     "steps::Mv25",
@@ -35,13 +40,15 @@ const ZERO_BY_DEFAULT: [&str; 15] = [
     "lists::Words",
     "lists::Place",
     "lists::Objects",
+    "messages::Header",
+    "messages::Message",
     "ports::Row",
     "flat::FlatObject",
     "flat::FlatObjects",
 ];
 
 /// Measures, and what somebody may want to keep sorted. An answer is neither.
-const ORDERED: [&str; 14] = [
+const ORDERED: [&str; 16] = [
     "verdicts::Verdict",
     "steps::Mv20",
     "steps::Mv25",
@@ -54,6 +61,8 @@ const ORDERED: [&str; 14] = [
     "objects::Object",
     "lists::Words",
     "rules::Profile",
+    "messages::Header",
+    "messages::Message",
     "ports::Row",
     "flat::FlatObject",
 ];

@@ -1,11 +1,12 @@
 //! Arinduleu: source capabilities for USB-C ports with SPR AVS. It builds the list of supplies that a port advertises, checks such lists,
-//! answers the requests that come back, and shares one supply among up to eight ports.
+//! answers the requests that come back, takes apart and puts together the messages that both travel in, and shares one supply among up to
+//! eight ports.
 //!
 //! The modules are the crates of the proved source, with their own names: nothing here is written twice. The build script reads
 //! `crates/*/src/*.rt` and takes the contracts away; what they promise for every input is in `docs/TRACE.md`.
 //!
-//! Firmware calls [`board`]; [`rules`], [`lists`], [`requests`] and [`objects`] are the floors below it. Nothing panics, nothing is
-//! allocated, and there is no state but the rows that the caller lends.
+//! Firmware calls [`board`]; [`rules`], [`lists`], [`requests`], [`messages`] and [`objects`] are the floors below it. Nothing panics,
+//! nothing is allocated, and there is no state but the rows that the caller lends.
 //!
 //! # Refusals
 //!
@@ -14,6 +15,7 @@
 //!
 //! ```
 //! use arinduleu::board::{arin_attach, arin_remaining, arin_request, arin_set_up};
+//! use arinduleu::messages::{read_message, write_message, Header, Message, LONGEST_MESSAGE, REQUEST};
 //! use arinduleu::ports::Row;
 //! use arinduleu::rules::{build, default_profile, Profile};
 //! use arinduleu::steps::HalfWatts;
@@ -31,12 +33,24 @@
 //!     assert_eq!(refusal.number(), arinduleu::verdicts::POSITION);
 //!     assert_eq!(refusal.to_string(), "the request names a position that the list does not have (refusal 20)");
 //!
-//!     // Two ports of 65 W that share 100 W: port 1 gets a 5 A cable and takes 20 V at 3.25 A.
+//!     // Two ports of 65 W that share 100 W: port 1 gets a 5 A cable.
 //!     let mut rows = [Row { max: HalfWatts(130), ..Row::default() }; 2];
 //!     arin_set_up(&mut rows, 200).ok()?;
 //!     let list = arin_attach(&mut rows, 200, 1, 5).ok()?;
 //!     assert_eq!(list.as_slice()[3], 0x0006_4145);
-//!     arin_request(&mut rows, 200, 1, 0x4005_1545).ok()?;
+//!
+//!     // Its list as the bytes of a Source_Capabilities, to be sent.
+//!     let header = Header { power_role: 1, revision: 2, data_role: 1, ..Header::default() };
+//!     let mut buffer = [0; LONGEST_MESSAGE];
+//!     let length = write_message(&mut buffer, Message::source_capabilities(header, list)).ok()?;
+//!     let sent = &buffer[..length];
+//!     assert_eq!(sent.len(), 22);
+//!     assert_eq!(sent[..6], [0xA1, 0x51, 0x2C, 0x91, 0x01, 0x00]);
+//!
+//!     // A Request comes back, in bytes too: 20 V at 3.25 A.
+//!     let message = read_message(&[0x82, 0x12, 0x45, 0x15, 0x05, 0x40]).ok()?;
+//!     assert_eq!(message.header.message_type, REQUEST);
+//!     arin_request(&mut rows, 200, 1, message.words[0]).ok()?;
 //!     assert_eq!(arin_remaining(&rows, 200).ok()?, HalfWatts(55));
 //!     Ok(())
 //! }
@@ -44,11 +58,11 @@
 //!
 //! # Traits
 //!
-//! Every type can be copied, compared, hashed and shown; words are shown in hex. `Default` is all zero: success, an empty list or place, a
-//! row before set-up, a measure of nothing. [`rules::Profile`] has none, since one that is all zero is refused: see
+//! Every type can be copied, compared, hashed and shown; words are shown in hex. `Default` is all zero: success, an empty list or place, no
+//! message, a row before set-up, a measure of nothing. [`rules::Profile`] has none, since one that is all zero is refused: see
 //! [`rules::default_profile`]. Measures are ordered by what they measure, verdicts and refusals by number and then by place. The order of
-//! profiles, rows, objects and lists of words goes by their fields as they are declared: it is for sorted collections, and says nothing of
-//! which is better.
+//! profiles, rows, objects, lists of words and messages goes by their fields as they are declared: it is for sorted collections, and says
+//! nothing of which is better.
 #![no_std]
 #![forbid(unsafe_code)]
 #![deny(missing_docs, rustdoc::broken_intra_doc_links)]
@@ -63,6 +77,7 @@
 )]
 
 mod defaults;
+mod making;
 mod refusal;
 mod results;
 mod slices;

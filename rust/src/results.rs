@@ -2,6 +2,7 @@
 
 use crate::flat::{FlatObjects, FlatReading, Raised};
 use crate::lists::{Listing, Objects, Reading, Words};
+use crate::messages::{Message, MessageReading, Written};
 use crate::objects::{Decoded, Encoded, Object};
 use crate::ports::RemainingPower;
 use crate::refusal::Refusal;
@@ -55,8 +56,26 @@ value_beside_verdict! {
     Listing { list: Words } "list of words";
     Reading { list: Objects } "list of objects";
     FlatReading { list: FlatObjects } "list of flat objects";
+    MessageReading { message: Message } "message";
     Profiled { profile: Profile } "profile";
     RemainingPower { power: HalfWatts } "power that no port holds";
+}
+
+// The number as what ends a slice of the buffer.
+impl Written {
+    /// How many bytes were written where the call succeeded, else its refusal.
+    pub const fn ok(self) -> Result<usize, Refusal> {
+        match self.verdict.ok() {
+            Ok(()) => Ok(self.length as usize),
+            Err(refusal) => Err(refusal),
+        }
+    }
+}
+
+impl From<Written> for Result<usize, Refusal> {
+    fn from(written: Written) -> Self {
+        written.ok()
+    }
 }
 
 // An answer that is its value or one refusal.

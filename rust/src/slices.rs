@@ -1,7 +1,9 @@
-//! Lists as slices, and slices as lists. A list has seven places; what lies past its count is no part of it.
+//! Lists as slices, and slices as lists; the words of a message as a slice. A list or a message has seven places; what lies past its count
+//! is no part of it.
 
 use crate::flat::{FlatObject, FlatObjects};
 use crate::lists::{Objects, Place, Words};
+use crate::messages::Message;
 use crate::objects::Object;
 use crate::refusal::Refusal;
 use crate::verdicts;
@@ -75,5 +77,13 @@ impl FlatObjects {
     #[must_use]
     pub fn as_slice(&self) -> &[FlatObject] {
         counted(&self.places, self.count)
+    }
+}
+
+impl Message {
+    /// The words that count. A count above seven, which is too wide for its bits, gives all seven.
+    #[must_use]
+    pub fn as_slice(&self) -> &[u32] {
+        counted(&self.words, self.header.count)
     }
 }

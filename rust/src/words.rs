@@ -1,6 +1,7 @@
 //! Words shown as people read them, in hex: `0x0001912C`.
 
 use crate::lists::Words;
+use crate::messages::Message;
 use crate::objects::Encoded;
 use crate::rules::Placed;
 use core::fmt::{Debug, Formatter, Result};
@@ -19,6 +20,16 @@ impl Debug for Words {
         f.debug_struct("Words")
             .field("words", &self.words.map(Hex))
             .field("count", &self.count)
+            .finish()
+    }
+}
+
+/// All seven places here too.
+impl Debug for Message {
+    fn fmt(&self, f: &mut Formatter) -> Result {
+        f.debug_struct("Message")
+            .field("header", &self.header)
+            .field("words", &self.words.map(Hex))
             .finish()
     }
 }

@@ -1,34 +1,35 @@
-//! The calls of `board` under their C names, for `include/arinduleu.h`. This is the one file with `unsafe`: rows come from C as a pointer
-//! and how many, and become a slice here.
+//! The calls of `board` under their C names, for `include/arinduleu.h`. This is the one file with `unsafe`: rows and bytes come from C as a
+//! pointer and how many, and become a slice here.
 #![no_std]
 
 use arinduleu::board;
 use arinduleu::flat::{FlatObjects, FlatReading};
 use arinduleu::lists::{Listing, Words};
+use arinduleu::messages::{Message, MessageReading, Written};
 use arinduleu::ports::{RemainingPower, Row};
 use arinduleu::rules::{Profile, Profiled};
 use arinduleu::verdicts::Verdict;
 
-/// The rows that C lends. A count of zero is no row, whatever the pointer.
+/// The rows or the bytes that C lends. A count of zero is none of them, whatever the pointer.
 ///
 /// # Safety
-/// For a count above zero, `rows` points to that many rows, which nothing else reads or writes during the call.
-unsafe fn lent<'a>(rows: *mut Row, count: usize) -> &'a mut [Row] {
-    if count == 0 || rows.is_null() {
+/// For a count above zero, `first` points to that many, which nothing else reads or writes during the call.
+unsafe fn lent<'a, T>(first: *mut T, count: usize) -> &'a mut [T] {
+    if count == 0 || first.is_null() {
         return &mut [];
     }
-    unsafe { core::slice::from_raw_parts_mut(rows, count) }
+    unsafe { core::slice::from_raw_parts_mut(first, count) }
 }
 
 /// As `lent`, for a call that writes none.
 ///
 /// # Safety
-/// For a count above zero, `rows` points to that many rows, which nothing else writes during the call.
-unsafe fn shown<'a>(rows: *const Row, count: usize) -> &'a [Row] {
-    if count == 0 || rows.is_null() {
+/// For a count above zero, `first` points to that many, which nothing else writes during the call.
+unsafe fn shown<'a, T>(first: *const T, count: usize) -> &'a [T] {
+    if count == 0 || first.is_null() {
         return &[];
     }
-    unsafe { core::slice::from_raw_parts(rows, count) }
+    unsafe { core::slice::from_raw_parts(first, count) }
 }
 
 #[no_mangle]
@@ -67,7 +68,26 @@ pub extern "C" fn arin_answer(list: Words, word: u32) -> Verdict {
 }
 
 /// # Safety
-/// As `lent` says, here and in the calls below.
+/// As `shown` and `lent` say, here and in the calls below.
+#[no_mangle]
+pub unsafe extern "C" fn arin_read_message(bytes: *const u8, length: usize) -> MessageReading {
+    board::arin_read_message(unsafe { shown(bytes, length) })
+}
+
+#[no_mangle]
+pub unsafe extern "C" fn arin_take_message(bytes: *const u8, length: usize) -> MessageReading {
+    board::arin_take_message(unsafe { shown(bytes, length) })
+}
+
+#[no_mangle]
+pub unsafe extern "C" fn arin_write_message(
+    bytes: *mut u8,
+    length: usize,
+    message: Message,
+) -> Written {
+    board::arin_write_message(unsafe { lent(bytes, length) }, message)
+}
+
 #[no_mangle]
 pub unsafe extern "C" fn arin_set_up(rows: *mut Row, count: usize, capacity: u16) -> Verdict {
     board::arin_set_up(unsafe { lent(rows, count) }, capacity)
