@@ -3,6 +3,7 @@
 
 use arinduleu::flat::{FlatObject, FlatObjects, FlatReading};
 use arinduleu::lists::{Listing, Words};
+use arinduleu::messages::{Header, Message, MessageReading, Written};
 use arinduleu::ports::{RemainingPower, Row};
 use arinduleu::rules::{Profile, Profiled};
 use arinduleu::verdicts::Verdict;
@@ -36,6 +37,10 @@ fn structs_lie_as_in_c() {
         }),
         line!("arin_flat_objects" FlatObjects { places, count }),
         line!("arin_flat_reading" FlatReading { verdict, list }),
+        line!("arin_header" Header { extended, count, id, power_role, revision, data_role, message_type }),
+        line!("arin_message" Message { header, words }),
+        line!("arin_message_reading" MessageReading { verdict, message }),
+        line!("arin_written" Written { verdict, length }),
     ];
     let of_rust: BTreeSet<&str> = of_rust.iter().map(String::as_str).collect();
     let of_c: BTreeSet<&str> = OF_C.lines().filter(|l| !l.is_empty()).collect();

@@ -151,6 +151,73 @@ static struct arin_words list_of_three(void)
     return words(3, 0x2081912C, 0x59019190, 0x9A4190C8, 0, 0, 0);
 }
 
+/* A message that is not extended. */
+static struct arin_message message(uint8_t id, uint8_t power_role, uint8_t revision, uint8_t data_role, uint8_t message_type,
+                                   struct arin_words list)
+{
+    struct arin_message m;
+    int i;
+
+    m.header.extended = 0;
+    m.header.count = list.count;
+    m.header.id = id;
+    m.header.power_role = power_role;
+    m.header.revision = revision;
+    m.header.data_role = data_role;
+    m.header.message_type = message_type;
+    for (i = 0; i < ARIN_LIST_PLACES; i++)
+        m.words[i] = list.words[i];
+    return m;
+}
+
+/* As in the statement's hand-worked cases: what a source sends first, and the Request of a sink. */
+static struct arin_message capabilities(struct arin_words list)
+{
+    return message(0, 1, 2, 1, ARIN_SOURCE_CAPABILITIES, list);
+}
+
+static struct arin_message a_request(uint32_t word)
+{
+    return message(1, 0, 2, 0, ARIN_REQUEST, words(1, word, 0, 0, 0, 0, 0));
+}
+
+/* Bytes, and how many of them are lent. There is room for more than a message, so that it shows where too many are written. */
+enum { ROOM = 40 };
+
+struct buffer {
+    uint8_t bytes[ROOM];
+    size_t length;
+};
+
+static struct buffer untouched(size_t length)
+{
+    struct buffer b;
+    int i;
+
+    for (i = 0; i < ROOM; i++)
+        b.bytes[i] = 0xAA;
+    b.length = length;
+    return b;
+}
+
+/* The bytes of a message whose fields fit, by hand. */
+static struct buffer laid(struct arin_message m)
+{
+    const struct arin_header h = m.header;
+    const unsigned half = (unsigned)h.extended << 15 | (unsigned)h.count << 12 | (unsigned)h.id << 9 |
+                          (unsigned)h.power_role << 8 | (unsigned)h.revision << 6 | (unsigned)h.data_role << 5 | h.message_type;
+    struct buffer b = untouched(0);
+    int i, shift;
+
+    b.bytes[b.length++] = (uint8_t)(half & 0xFF);
+    b.bytes[b.length++] = (uint8_t)(half >> 8);
+    for (i = 0; i < h.count; i++) {
+        for (shift = 0; shift < 32; shift += 8)
+            b.bytes[b.length++] = (uint8_t)(m.words[i] >> shift & 0xFF);
+    }
+    return b;
+}
+
 static struct arin_row row(uint16_t max, uint8_t pps_wanted, uint8_t cable, uint16_t present, uint16_t held)
 {
     struct arin_row r;
@@ -244,6 +311,50 @@ static int no_reading(struct arin_flat_reading got, int number, int place)
     return is(got.verdict, number, place) && got.list.count == 0;
 }
 
+static int is_header(struct arin_header h, struct arin_header wanted)
+{
+    return h.extended == wanted.extended && h.count == wanted.count && h.id == wanted.id && h.power_role == wanted.power_role &&
+           h.revision == wanted.revision && h.data_role == wanted.data_role && h.message_type == wanted.message_type;
+}
+
+/* Success, the header, the words that count, and zero past them. */
+static int is_message(struct arin_message_reading got, struct arin_message wanted)
+{
+    int i;
+
+    if (!is(got.verdict, 0, 0) || !is_header(got.message.header, wanted.header))
+        return 0;
+    for (i = 0; i < ARIN_LIST_PLACES; i++) {
+        if (got.message.words[i] != (i < wanted.header.count ? wanted.words[i] : 0))
+            return 0;
+    }
+    return 1;
+}
+
+static int no_message(struct arin_message_reading got, int number, int place)
+{
+    static const struct arin_header zero = { 0, 0, 0, 0, 0, 0, 0 };
+    int i;
+
+    for (i = 0; i < ARIN_LIST_PLACES; i++) {
+        if (got.message.words[i] != 0)
+            return 0;
+    }
+    return is(got.verdict, number, place) && is_header(got.message.header, zero);
+}
+
+/* Byte by byte, those that are not lent too. */
+static int is_buffer(struct buffer b, struct buffer wanted)
+{
+    int i;
+
+    for (i = 0; i < ROOM; i++) {
+        if (b.bytes[i] != wanted.bytes[i])
+            return 0;
+    }
+    return 1;
+}
+
 static int is_power(struct arin_remaining_power p, int number, int place, int power)
 {
     return is(p.verdict, number, place) && p.power == power;
@@ -282,7 +393,8 @@ static const struct refusal refusals[] = {
 /* Whether the statement has such a refusal. */
 static int is_refusal(unsigned number)
 {
-    return (number <= 25 && number != 8 && number != 21) || (number >= 30 && number <= 37);
+    return (number <= 25 && number != 8 && number != 21) || (number >= 30 && number <= 37) || (number >= 40 && number <= 42) ||
+           (number >= 51 && number <= 53);
 }
 
 static void texts(void)
@@ -291,7 +403,7 @@ static void texts(void)
     const char *none = arin_refusal_text(8);
     unsigned i, j;
 
-    CHECK(rows == 32);
+    CHECK(rows == 38);
     for (i = 0; i < rows; i++) {
         CHECK(refusals[i].number == refusals[i].named);
         CHECK(is_refusal(refusals[i].number));
@@ -600,6 +712,279 @@ static void reserved_bits_are_ignored(void)
     CHECK(is(arin_answer(l, ask_volts(5, 600, 65) | 0x00100000), 22, 0));
 }
 
+/* ---- Messages ---- */
+
+/* Both ways of taking bytes apart give the message, and do not write them. */
+static int reads_message(struct arin_message m)
+{
+    struct buffer b = laid(m);
+
+    return is_message(arin_read_message(b.bytes, b.length), m) && is_message(arin_take_message(b.bytes, b.length), m) &&
+           is_buffer(b, laid(m));
+}
+
+/* Both refuse, in the same way. */
+static int reads_none(struct buffer b, int number)
+{
+    return no_message(arin_read_message(b.bytes, b.length), number, 0) &&
+           no_message(arin_take_message(b.bytes, b.length), number, 0);
+}
+
+/* The bytes are those that were laid by hand, and what lies past them is as it was, lent or not. */
+static int writes_message(struct arin_message m, size_t room)
+{
+    struct buffer b = untouched(room);
+    struct arin_written w = arin_write_message(b.bytes, b.length, m);
+
+    return is(w.verdict, 0, 0) && w.length == laid(m).length && is_buffer(b, laid(m));
+}
+
+static int writes_none(struct arin_message m, size_t room, int number, int place)
+{
+    struct buffer b = untouched(room);
+    struct arin_written w = arin_write_message(b.bytes, b.length, m);
+
+    return is(w.verdict, number, place) && w.length == 0 && is_buffer(b, untouched(room));
+}
+
+/* The bytes as the statement has them. */
+static void worked_messages(void)
+{
+    static const uint8_t of_list[] = { 0xA1, 0x61, 0x2C, 0x91, 0x01, 0x00, 0x2C, 0xD1, 0x02, 0x00, 0xF0, 0xB0, 0x04,
+                                       0x00, 0x00, 0xC0, 0x03, 0xE0, 0x3C, 0x32, 0xDC, 0xC8, 0x30, 0x32, 0x40, 0xC9 };
+    static const uint8_t of_request[] = { 0x82, 0x12, 0x45, 0x15, 0x05, 0x40 };
+    struct arin_message list = capabilities(list_36_w()), request = a_request(0x40051545);
+    uint8_t buffer[ARIN_LONGEST_MESSAGE];
+    struct arin_written w;
+    size_t i;
+
+    CHECK(is_message(arin_read_message(of_list, sizeof of_list), list));
+    CHECK(is_message(arin_take_message(of_list, sizeof of_list), list));
+    w = arin_write_message(buffer, sizeof buffer, list);
+    CHECK(is(w.verdict, ARIN_SUCCESS, 0) && w.length == sizeof of_list);
+    for (i = 0; i < sizeof of_list; i++)
+        CHECK(buffer[i] == of_list[i]);
+
+    CHECK(is_message(arin_read_message(of_request, sizeof of_request), request));
+    CHECK(is_message(arin_take_message(of_request, sizeof of_request), request));
+    w = arin_write_message(buffer, sizeof buffer, request);
+    CHECK(is(w.verdict, 0, 0) && w.length == sizeof of_request);
+    for (i = 0; i < sizeof of_request; i++)
+        CHECK(buffer[i] == of_request[i]);
+    for (; i < sizeof of_list; i++)
+        CHECK(buffer[i] == of_list[i]);
+}
+
+/* Lists of each length that is built, and words that no list would have. */
+static void good_messages(void)
+{
+    uint16_t max;
+
+    for (max = 1; max <= 200; max++) {
+        struct arin_message m = capabilities(arin_build(profile(max, max, 5, 0, 1, 0)).list);
+
+        CHECK(reads_message(m) && writes_message(m, ARIN_LONGEST_MESSAGE));
+    }
+    CHECK(laid(capabilities(arin_build(profile(91, 91, 3, 0, 1, 0)).list)).length == ARIN_LONGEST_MESSAGE);
+    CHECK(reads_message(capabilities(list_of_three())) && writes_message(capabilities(list_of_three()), ROOM));
+    CHECK(reads_message(a_request(0)) && writes_message(a_request(0), ROOM));
+    CHECK(reads_message(a_request(0xFFFFFFFF)) && writes_message(a_request(0xFFFFFFFF), ROOM));
+}
+
+/* Message id, roles and revision are carried, whatever they are, in both types. */
+static void carried_fields(void)
+{
+    int i;
+
+    for (i = 0; i < 8 * 2 * 4 * 2; i++) {
+        const uint8_t id = (uint8_t)(i % 8), power_role = (uint8_t)(i / 8 % 2);
+        const uint8_t revision = (uint8_t)(i / 16 % 4), data_role = (uint8_t)(i / 64);
+        struct arin_message m = message(id, power_role, revision, data_role, ARIN_SOURCE_CAPABILITIES, list_l());
+
+        CHECK(reads_message(m) && writes_message(m, ROOM));
+        m = message(id, power_role, revision, data_role, ARIN_REQUEST, words(1, 0x40051545, 0, 0, 0, 0, 0));
+        CHECK(reads_message(m) && writes_message(m, ROOM));
+    }
+}
+
+/* What was read can be written, and what was written can be read. */
+static void messages_there_and_back(void)
+{
+    struct arin_message m = capabilities(list_l());
+    struct buffer b = untouched(ROOM), once_more = untouched(ROOM);
+
+    b.length = arin_write_message(b.bytes, b.length, m).length;
+    CHECK(b.length == 22 && is_message(arin_read_message(b.bytes, b.length), m));
+    m = arin_read_message(b.bytes, b.length).message;
+    CHECK(arin_write_message(once_more.bytes, ROOM, m).length == 22 && is_buffer(once_more, b));
+}
+
+/* Any count with any number of bytes. 40 comes before 42 and 41. */
+static void refused_by_length(void)
+{
+    static uint8_t many[256 + 6] = { 0x82, 0x12, 0x45, 0x15, 0x05, 0x40 };
+    struct buffer b;
+    int count;
+
+    for (count = 0; count <= 7; count++) {
+        struct arin_message m = message(7, 1, 3, 1, 31, list_36_w());
+        size_t length;
+
+        m.header.extended = 1;
+        m.header.count = (uint8_t)count;
+        b = laid(m);
+        length = b.length;
+        for (b.length = 0; b.length <= ROOM; b.length++)
+            CHECK(reads_none(b, b.length == length ? ARIN_EXTENDED_MESSAGE : ARIN_MESSAGE_LENGTH));
+    }
+    b = laid(a_request(0x40051545));
+    for (b.length = 0; b.length <= ROOM; b.length++)
+        CHECK(b.length == 6 || reads_none(b, 40));
+    /* In 8 bits they would be 6. */
+    CHECK(no_message(arin_read_message(many, sizeof many), 40, 0));
+    CHECK(no_message(arin_take_message(many, sizeof many), 40, 0));
+    CHECK(is_message(arin_read_message(many, 6), a_request(0x40051545)));
+}
+
+/* Every type with every count, extended or not. 42 comes before 41 and 53, and these before the list. */
+static void refused_by_header(void)
+{
+    const struct arin_words seven = arin_build(profile(91, 91, 3, 0, 1, 0)).list;
+    int type, count;
+
+    for (type = 0; type < 32; type++) {
+        for (count = 0; count <= 7; count++) {
+            struct arin_message m = message(2, 1, 1, 0, (uint8_t)type, seven);
+
+            m.header.count = (uint8_t)count;
+            if (type == ARIN_REQUEST && count != 1)
+                CHECK(reads_none(laid(m), ARIN_REQUEST_COUNT) && writes_none(m, ROOM, ARIN_REQUEST_COUNT, 0));
+            else if (type != ARIN_REQUEST && type != ARIN_SOURCE_CAPABILITIES)
+                CHECK(reads_none(laid(m), ARIN_MESSAGE_TYPE) && writes_none(m, ROOM, ARIN_MESSAGE_TYPE, 0));
+            else if (count != 0)
+                CHECK(reads_message(m) && writes_message(m, ROOM));
+            m.header.extended = 1;
+            CHECK(reads_none(laid(m), ARIN_EXTENDED_MESSAGE) && writes_none(m, ROOM, ARIN_EXTENDED_MESSAGE, 0));
+        }
+    }
+}
+
+/* Refused with the number and the place of the shape check, taken apart as it stands. 52 comes before, and all of the header. */
+static void refused_list(struct arin_words list, int number, int place)
+{
+    struct arin_message m = capabilities(list);
+    struct buffer b = laid(m);
+
+    CHECK(is(arin_shape(list), number, place));
+    CHECK(no_message(arin_read_message(b.bytes, b.length), number, place));
+    CHECK(is_message(arin_take_message(b.bytes, b.length), m));
+    CHECK(writes_none(m, b.length, number, place));
+    CHECK(writes_none(m, b.length - 1, ARIN_BUFFER_TOO_SHORT, 0));
+    m.header.extended = 1;
+    CHECK(reads_none(laid(m), 42) && writes_none(m, ROOM, 42, 0));
+    m.header.extended = 0;
+    m.header.message_type = 3;
+    CHECK(reads_none(laid(m), 41) && writes_none(m, ROOM, 41, 0));
+}
+
+static void refused_by_list(void)
+{
+    refused_list(words(0, 0, 0, 0, 0, 0, 0), ARIN_COUNT, 0);
+    refused_list(words(1, 0x0002D12C, 0, 0, 0, 0, 0), ARIN_FIRST_NOT_FIXED_5_V, 1);
+    refused_list(after_5_v(0xD0000000), ARIN_KIND_NOT_ALLOWED, 2);
+    refused_list(after_5_v(0x0042D12C), ARIN_RESERVED_BIT, 2);
+    refused_list(words(3, 0x0001912C, 0x0004B12C, 0x0002D12C, 0, 0, 0), ARIN_ORDER, 3);
+    refused_list(after_5_v(0x00064464), ARIN_VOLTAGE_BOUND, 2);
+    refused_list(after_5_v(0x000641F5), ARIN_POWER_OVER_100_W, 2);
+    refused_list(words(5, 0x0001912C, 0x0002D12C, 0x0004B12C, 0x00064145, 0xE004B144, 0), ARIN_AVS_DIFFERS, 5);
+    /* list_36_w, and a seventh word of no kind. */
+    refused_list(words(7, 0x0001912C, 0x0002D12C, 0x0004B0F0, 0xE003C000, 0xC8DC323C, 0xC9403230), 12, 7);
+}
+
+/* Each field of the header at the end of its width, one past it, and as wide as a byte goes. 51 comes before all else. */
+static void wide_fields(void)
+{
+    static const uint8_t one_past[] = { 2, 8, 8, 2, 4, 2, 32 };
+    const struct arin_message good = a_request(0x40051545);
+    int i;
+
+    for (i = 0; i < 7; i++) {
+        struct arin_message m = good;
+        uint8_t *const fields[] = { &m.header.extended, &m.header.count,     &m.header.id,          &m.header.power_role,
+                                    &m.header.revision, &m.header.data_role, &m.header.message_type };
+        struct buffer b = untouched(ROOM);
+
+        *fields[i] = (uint8_t)(one_past[i] - 1);
+        CHECK(arin_write_message(b.bytes, b.length, m).verdict.number != ARIN_HEADER_FIELD_TOO_WIDE);
+        *fields[i] = one_past[i];
+        CHECK(writes_none(m, ROOM, ARIN_HEADER_FIELD_TOO_WIDE, 0));
+        *fields[i] = 255;
+        CHECK(writes_none(m, ROOM, 51, 0));
+        if (i != 0)
+            m.header.extended = 1;
+        if (i != 6)
+            m.header.message_type = 3;
+        CHECK(writes_none(m, 0, 51, 0));
+    }
+}
+
+/* A message with every fault, and then one less each time. */
+static void faults_in_order(void)
+{
+    struct arin_message m = a_request(0x40051545);
+
+    m.header.id = 8;
+    m.header.extended = 1;
+    m.header.message_type = 3;
+    m.header.count = 2;
+    CHECK(writes_none(m, 0, 51, 0));
+    m.header.id = 7;
+    CHECK(writes_none(m, 0, 42, 0));
+    m.header.extended = 0;
+    CHECK(writes_none(m, 0, 41, 0));
+    m.header.message_type = ARIN_REQUEST;
+    CHECK(writes_none(m, 0, 53, 0));
+    m.header.count = 1;
+    CHECK(writes_none(m, 0, 52, 0));
+    CHECK(writes_message(m, 6));
+    /* The same word as a list of one. */
+    m.header.message_type = ARIN_SOURCE_CAPABILITIES;
+    CHECK(writes_none(m, 5, 52, 0));
+    CHECK(writes_none(m, 6, 11, 1));
+}
+
+/* Every buffer that is too short, and some that are not. */
+static void rooms(void)
+{
+    static uint8_t many[256];
+    size_t room;
+
+    /* In 8 bits they would be none. */
+    CHECK(is(arin_write_message(many, sizeof many, a_request(0x40051545)).verdict, 0, 0));
+    for (room = 0; room <= ROOM; room++) {
+        CHECK(room < 6 ? writes_none(a_request(0x40051545), room, ARIN_BUFFER_TOO_SHORT, 0)
+                       : writes_message(a_request(0x40051545), room));
+        CHECK(room < 26 ? writes_none(capabilities(list_36_w()), room, 52, 0) : writes_message(capabilities(list_36_w()), room));
+    }
+}
+
+/* A length of zero, whatever the pointer. */
+static void no_bytes(uint8_t *bytes)
+{
+    struct arin_message m = a_request(0x40051545);
+    struct arin_written w = arin_write_message(bytes, 0, m);
+
+    CHECK(no_message(arin_read_message(bytes, 0), 40, 0));
+    CHECK(no_message(arin_take_message(bytes, 0), 40, 0));
+    CHECK(is(w.verdict, 52, 0) && w.length == 0);
+    m.header.count = 2;
+    w = arin_write_message(bytes, 0, m);
+    CHECK(is(w.verdict, 53, 0) && w.length == 0);
+    m.header.count = 8;
+    w = arin_write_message(bytes, 0, m);
+    CHECK(is(w.verdict, 51, 0) && w.length == 0);
+}
+
 /* ---- Ports that share ---- */
 
 /* The run of the statement's hand-worked cases: capacity 200, two rows of M 130, 5 A. */
@@ -852,6 +1237,18 @@ int main(void)
     writing_no_kind();
     answers();
     reserved_bits_are_ignored();
+    worked_messages();
+    good_messages();
+    carried_fields();
+    messages_there_and_back();
+    refused_by_length();
+    refused_by_header();
+    refused_by_list();
+    wide_fields();
+    faults_in_order();
+    rooms();
+    no_bytes(NULL);
+    no_bytes((uint8_t *)(uintptr_t)1);
     marked_run();
     reserved_bits_hold_the_same();
     more_runs();

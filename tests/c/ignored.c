@@ -5,10 +5,10 @@
 #include "arinduleu.h"
 
 void ignore_every_answer(struct arin_profile profile, struct arin_words list, struct arin_flat_objects objects,
-                         struct arin_row *rows);
+                         uint8_t *bytes, struct arin_message message, struct arin_row *rows);
 
 void ignore_every_answer(struct arin_profile profile, struct arin_words list, struct arin_flat_objects objects,
-                         struct arin_row *rows)
+                         uint8_t *bytes, struct arin_message message, struct arin_row *rows)
 {
     arin_refusal_text(0);
     arin_default_profile(72);
@@ -18,6 +18,9 @@ void ignore_every_answer(struct arin_profile profile, struct arin_words list, st
     arin_read(list);
     arin_write(objects);
     arin_answer(list, 0);
+    arin_read_message(bytes, 6);
+    arin_take_message(bytes, 6);
+    arin_write_message(bytes, 6, message);
     arin_set_up(rows, 2, 200);
     arin_attach(rows, 2, 200, 1, 5);
     arin_advertise(rows, 2, 200, 1);

@@ -68,6 +68,31 @@ int main(void)
     FIELD(arin_flat_reading, list);
     END();
 
+    STRUCT(arin_header);
+    FIELD(arin_header, extended);
+    FIELD(arin_header, count);
+    FIELD(arin_header, id);
+    FIELD(arin_header, power_role);
+    FIELD(arin_header, revision);
+    FIELD(arin_header, data_role);
+    FIELD(arin_header, message_type);
+    END();
+
+    STRUCT(arin_message);
+    FIELD(arin_message, header);
+    FIELD(arin_message, words);
+    END();
+
+    STRUCT(arin_message_reading);
+    FIELD(arin_message_reading, verdict);
+    FIELD(arin_message_reading, message);
+    END();
+
+    STRUCT(arin_written);
+    FIELD(arin_written, verdict);
+    FIELD(arin_written, length);
+    END();
+
     STRUCT(arin_row);
     FIELD(arin_row, max);
     FIELD(arin_row, pps);

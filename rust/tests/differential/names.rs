@@ -1,7 +1,8 @@
-//! The names of the refusal numbers and of the flat kinds. No call gives 9 and a call's answer shows a number and no name, so this is
-//! the only place where a wrong name would be seen.
+//! The names of the refusal numbers, of the flat kinds and of the types of messages. No call gives 9 and a call's answer shows a number
+//! and no name, so this is the only place where a wrong name would be seen.
 
 use arinduleu::flat::*;
+use arinduleu::messages::*;
 use arinduleu::verdicts::*;
 
 #[test]
@@ -58,6 +59,14 @@ fn names_have_the_numbers_of_the_statement() {
         ],
         [30, 31, 32, 33, 34, 35, 36, 37]
     );
+    assert_eq!(
+        [MESSAGE_LENGTH, MESSAGE_TYPE, EXTENDED_MESSAGE],
+        [40, 41, 42]
+    );
+    assert_eq!(
+        [HEADER_FIELD_TOO_WIDE, BUFFER_TOO_SHORT, REQUEST_COUNT],
+        [51, 52, 53]
+    );
 }
 
 #[test]
@@ -66,4 +75,10 @@ fn flat_kinds_have_the_order_of_the_statement() {
         [KIND_FIXED, KIND_BATTERY, KIND_VARIABLE, KIND_PPS, KIND_AVS],
         [0, 1, 2, 3, 4]
     );
+}
+
+#[test]
+fn messages_are_as_the_statement_has_them() {
+    assert_eq!([SOURCE_CAPABILITIES, REQUEST], [1, 2]);
+    assert_eq!(LONGEST_MESSAGE, 30);
 }

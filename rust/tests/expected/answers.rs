@@ -2,6 +2,7 @@
 
 use arinduleu::flat::{self, FlatObject, FlatObjects};
 use arinduleu::lists::{self, Objects, Words};
+use arinduleu::messages::{self, Header, Message, LONGEST_MESSAGE};
 use arinduleu::objects::{self, Object};
 use arinduleu::ports::{Row, NO_ROW};
 use arinduleu::rules::{self, Profile};
@@ -42,6 +43,30 @@ fn lists_and_profiles() {
         lists::write(Objects::default()).ok(),
         Err(refusal(verdicts::COUNT, 0))
     );
+}
+
+#[test]
+fn messages_in_and_out() {
+    fn sent(message: Message, buffer: &mut [u8]) -> Result<&[u8], Refusal> {
+        let length = messages::write_message(buffer, message).ok()?;
+        Ok(&buffer[..length])
+    }
+    let message = Message::source_capabilities(Header::default(), example().unwrap());
+    let mut buffer = [0; LONGEST_MESSAGE];
+    let bytes = sent(message, &mut buffer).unwrap();
+    assert_eq!(bytes.len(), 26);
+    assert_eq!(messages::read_message(bytes).ok(), Ok(message));
+    assert_eq!(messages::take_message(bytes).ok(), Ok(message));
+    let short = refusal(verdicts::MESSAGE_LENGTH, 0);
+    assert_eq!(messages::read_message(&bytes[..25]).ok(), Err(short));
+    assert_eq!(messages::take_message(&[]).ok(), Err(short));
+
+    let no_room = refusal(verdicts::BUFFER_TOO_SHORT, 0);
+    assert_eq!(sent(message, &mut [0; 25]), Err(no_room));
+    let words = [message.words[0]; 7];
+    let twice = Message { words, ..message };
+    let order = refusal(verdicts::ORDER, 2);
+    assert_eq!(sent(twice, &mut buffer), Err(order));
 }
 
 #[test]
@@ -122,6 +147,11 @@ fn answers_are_turned_into_results() {
     assert_eq!(read.unwrap().count, 6);
     let flat: Result<FlatObjects, Refusal> = flat::flat_read(list).into();
     assert_eq!(flat.unwrap().count, 6);
+    let message = Message::request(Header::default(), 0x4005_1545);
+    let length: Result<usize, Refusal> = messages::write_message(&mut [0; 6], message).into();
+    assert_eq!(length, Ok(6));
+    let message: Result<Message, Refusal> = messages::take_message(&[0]).into();
+    assert_eq!(message, Err(refusal(verdicts::MESSAGE_LENGTH, 0)));
     let power: Result<HalfWatts, Refusal> = board::arin_remaining(&[], 15).into();
     assert_eq!(power, Err(refusal(verdicts::ROW_COUNT, 0)));
     let object: Result<Object, Refusal> = objects::decode(0xD000_0000).into();

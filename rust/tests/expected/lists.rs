@@ -1,7 +1,8 @@
-//! Lists as slices, and slices as lists.
+//! Lists as slices, and slices as lists; a message from what it carries.
 
 use arinduleu::flat::{FlatObject, FlatObjects};
 use arinduleu::lists::{Objects, Place, Words, EMPTY_PLACE};
+use arinduleu::messages::{Header, Message, REQUEST, SOURCE_CAPABILITIES};
 use arinduleu::objects::Object;
 use arinduleu::steps::{Ma10, Mv50};
 use arinduleu::{verdicts, Refusal};
@@ -20,6 +21,11 @@ fn what_counts_is_a_slice() {
         let list = Words { words, count };
         assert_eq!(list.as_slice(), &words[..n]);
         assert_eq!(list.as_ref(), &words[..n]);
+        let header = Header {
+            count,
+            ..Header::default()
+        };
+        assert_eq!(Message { header, words }.as_slice(), &words[..n]);
         assert_eq!(Objects { places, count }.as_slice(), &places[..n]);
         let places = flat;
         assert_eq!(FlatObjects { places, count }.as_slice(), &flat[..n]);
@@ -49,6 +55,43 @@ fn a_slice_is_a_list() {
         assert_eq!(Objects::try_from(&objects[..n]), Err(refused));
     }
     assert_eq!(Words::try_from(&[0; 300][..]), Err(refused));
+}
+
+/// Id, roles and revision are kept, and nothing else of the header.
+#[test]
+fn a_message_is_made_of_what_it_carries() {
+    let header = Header {
+        extended: 1,
+        count: 9,
+        id: 3,
+        power_role: 1,
+        revision: 2,
+        data_role: 1,
+        message_type: 31,
+    };
+    let list = Words {
+        words: [1, 2, 3, 4, 5, 6, 7],
+        count: 5,
+    };
+    let message = Message::source_capabilities(header, list);
+    let made = Header {
+        extended: 0,
+        count: 5,
+        message_type: SOURCE_CAPABILITIES,
+        ..header
+    };
+    assert_eq!((message.header, message.words), (made, list.words));
+    assert_eq!(message.as_slice(), [1, 2, 3, 4, 5]);
+
+    let message = Message::request(header, 0x4005_1545);
+    let made = Header {
+        extended: 0,
+        count: 1,
+        message_type: REQUEST,
+        ..header
+    };
+    assert_eq!(message.header, made);
+    assert_eq!(message.words, [0x4005_1545, 0, 0, 0, 0, 0, 0]);
 }
 
 fn fixed(volts: u16) -> Object {

@@ -2,6 +2,7 @@
 
 use arinduleu::flat::{FlatObject, FlatObjects, KIND_FIXED};
 use arinduleu::lists::{self, Objects, Place, Words, EMPTY_PLACE, NO_WORDS};
+use arinduleu::messages::{Header, Message, NO_MESSAGE};
 use arinduleu::objects::{self, Encoded, Object};
 use arinduleu::ports::{Row, NO_ROW};
 use arinduleu::rules::{self, Placed, Profile};
@@ -19,6 +20,11 @@ fn words_are_shown_in_hex() {
     assert_eq!(
         format!("{list:?}"),
         "Words { words: [0x0001912C, 0xE003C000, 0x00000000, 0x00000000, 0x00000000, 0x00000000, 0x00000000], count: 2 }"
+    );
+    assert_eq!(
+        format!("{:?}", Message::request(Header::default(), 0x4005_1545)),
+        "Message { header: Header { extended: 0, count: 1, id: 0, power_role: 0, revision: 0, data_role: 0, message_type: 2 }, \
+        words: [0x40051545, 0x00000000, 0x00000000, 0x00000000, 0x00000000, 0x00000000, 0x00000000] }"
     );
     let listing = lists::refuse(verdicts::ORDER, 3);
     assert!(format!("{listing:?}").contains("Words { words: [0x00000000, "));
@@ -40,6 +46,8 @@ fn defaults_are_all_zero() {
     assert_eq!(Place::default(), EMPTY_PLACE);
     assert_eq!(Objects::default().places, [EMPTY_PLACE; 7]);
     assert_eq!(Objects::default().count, 0);
+    assert_eq!(Message::default(), NO_MESSAGE);
+    assert_eq!(Header::default(), NO_MESSAGE.header);
     assert_eq!(Row::default(), NO_ROW);
     assert_eq!(FlatObject::default().kind, KIND_FIXED);
     assert_eq!(
@@ -90,6 +98,9 @@ fn what_is_kept_in_collections() {
     });
     assert_eq!(both::<Profile>(&profiles), 2);
     assert_eq!(both::<Words>(&lists), 2);
+    let messages = lists.map(|l| Message::source_capabilities(Header::default(), l));
+    assert_eq!(both::<Message>(&messages), 2);
+    assert_eq!(both::<Header>(&messages.map(|m| m.header)), 1);
     assert_eq!(both::<Object>(&objects), 2);
     assert_eq!(both::<Row>(&rows), 2);
     assert_eq!(both(&objects.map(arinduleu::flat::flatten)), 2);

@@ -6,6 +6,7 @@ mod common;
 mod flat;
 mod lists;
 mod making;
+mod messages;
 mod ports;
 mod replay;
 mod requests;
