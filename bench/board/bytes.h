@@ -44,12 +44,17 @@ static struct arin_row rows[ARIN_MOST_ROWS + 1];
 static uint8_t count, port, cable;
 static uint16_t capacity;
 static uint32_t word;
+static struct arin_message message;
+static uint8_t lent[ARIN_LONGEST_MESSAGE + 1];
+static uint8_t length;
 
 /* What comes back. */
 static struct arin_verdict verdict;
 static struct arin_profiled profiled;
 static struct arin_listing listing;
 static struct arin_flat_reading reading;
+static struct arin_message_reading message_reading;
+static struct arin_written written;
 static struct arin_remaining_power remaining;
 
 static void take_max(void)
@@ -107,6 +112,30 @@ static void take_objects(void)
         o->high = (uint16_t)take(2);
     }
     objects.count = (uint8_t)take(1);
+}
+
+static void take_bytes(void)
+{
+    for (size_t i = 0; i < sizeof lent; i++)
+        lent[i] = (uint8_t)take(1);
+    length = (uint8_t)take(1);
+}
+
+/* The buffer is filled, so that the answers show what was written. */
+static void take_message_and_room(void)
+{
+    message.header.extended = (uint8_t)take(1);
+    message.header.count = (uint8_t)take(1);
+    message.header.id = (uint8_t)take(1);
+    message.header.power_role = (uint8_t)take(1);
+    message.header.revision = (uint8_t)take(1);
+    message.header.data_role = (uint8_t)take(1);
+    message.header.message_type = (uint8_t)take(1);
+    for (int i = 0; i < ARIN_LIST_PLACES; i++)
+        message.words[i] = take(4);
+    length = (uint8_t)take(1);
+    for (size_t i = 0; i < sizeof lent; i++)
+        lent[i] = 0xAA;
 }
 
 static void take_turn(void)
@@ -177,6 +206,30 @@ static void give_reading(void)
         give(o.high, 2);
     }
     give(reading.list.count, 1);
+}
+
+static void give_message_reading(void)
+{
+    struct arin_header h = message_reading.message.header;
+
+    give_verdict_of(message_reading.verdict);
+    give(h.extended, 1);
+    give(h.count, 1);
+    give(h.id, 1);
+    give(h.power_role, 1);
+    give(h.revision, 1);
+    give(h.data_role, 1);
+    give(h.message_type, 1);
+    for (int i = 0; i < ARIN_LIST_PLACES; i++)
+        give(message_reading.message.words[i], 4);
+}
+
+static void give_written_and_bytes(void)
+{
+    give_verdict_of(written.verdict);
+    give(written.length, 1);
+    for (size_t i = 0; i < sizeof lent; i++)
+        give(lent[i], 1);
 }
 
 static void give_rows(void)

@@ -3,8 +3,8 @@
  * MODEL, with the plain model; and each of these once more with DIVISIONS, to count these, since counting costs instructions itself.
  *
  * The file `inputs` has for each call two groups, each behind its number: the seeded inputs of the benchmark, whose mean is told, and the
- * hardest, among which and the seeded ones the most is looked for. The file `answers` gets every answer and the rows that it leaves, which
- * tools/board_tests.sh holds to this machine's. bytes.h has their form.
+ * hardest, among which and the seeded ones the most is looked for. The file `answers` gets every answer and the rows or the buffer that it
+ * leaves, which tools/board_tests.sh holds to this machine's. bytes.h has their form.
  *
  * A cost is that of a whole call as a caller has it: the arguments are handed over from where they lie, and the answer is laid down.
  */
@@ -26,6 +26,9 @@ struct arin_verdict model_shape(const struct arin_words *list);
 struct arin_flat_reading model_read(const struct arin_words *list);
 struct arin_listing model_write(const struct arin_flat_objects *list);
 struct arin_verdict model_answer(const struct arin_words *list, uint32_t word);
+struct arin_message_reading model_read_message(const uint8_t *bytes, size_t length);
+struct arin_message_reading model_take_message(const uint8_t *bytes, size_t length);
+struct arin_written model_write_message(uint8_t *bytes, size_t length, const struct arin_message *message);
 struct arin_verdict model_set_up(struct arin_row *rows, size_t count, uint16_t capacity);
 struct arin_listing model_attach(struct arin_row *rows, size_t count, uint16_t capacity, uint8_t port, uint8_t cable);
 struct arin_listing model_advertise(struct arin_row *rows, size_t count, uint16_t capacity, uint8_t port);
@@ -128,6 +131,21 @@ static void call_answer(void)
     ASK(verdict, CALL(answer)(GIVE(list), word));
 }
 
+static void call_read_message(void)
+{
+    ASK(message_reading, CALL(read_message)(lent, length));
+}
+
+static void call_take_message(void)
+{
+    ASK(message_reading, CALL(take_message)(lent, length));
+}
+
+static void call_write_message(void)
+{
+    ASK(written, CALL(write_message)(lent, length, GIVE(message)));
+}
+
 static void call_set_up(void)
 {
     ASK(verdict, CALL(set_up)(rows, count, capacity));
@@ -171,6 +189,9 @@ static const struct {
     { "arin_read", take_list, call_read, give_reading },
     { "arin_write", take_objects, call_write, give_listing },
     { "arin_answer", take_list_and_word, call_answer, give_verdict },
+    { "arin_read_message", take_bytes, call_read_message, give_message_reading },
+    { "arin_take_message", take_bytes, call_take_message, give_message_reading },
+    { "arin_write_message", take_message_and_room, call_write_message, give_written_and_bytes },
     { "arin_set_up", take_turn, call_set_up, give_verdict_and_rows },
     { "arin_attach", take_turn, call_attach, give_listing_and_rows },
     { "arin_advertise", take_turn, call_advertise, give_listing_and_rows },

@@ -13,6 +13,8 @@ mod inputs;
 mod lists;
 #[path = "calls/measure.rs"]
 mod measure;
+#[path = "calls/messages.rs"]
+mod messages;
 #[path = "calls/objects.rs"]
 mod objects;
 #[path = "calls/rows.rs"]

@@ -2,10 +2,12 @@
 //! `bench/board/bytes.h` reads the ones and writes the others.
 
 use crate::inputs::{self, Turn};
+use crate::messages::{self, Lent, ROOM};
 use crate::wrappers::library;
 use crate::{hardest, lists, objects, tables};
 use arinduleu::flat::{FlatObject, FlatObjects, FlatReading};
 use arinduleu::lists::{Listing, Words};
+use arinduleu::messages::{Header, Message, MessageReading, Written};
 use arinduleu::ports::{RemainingPower, Row};
 use arinduleu::rules::{Profile, Profiled};
 use arinduleu::verdicts::Verdict;
@@ -42,6 +44,11 @@ fields! {
     Verdict { number, place }
     Words { words, count }
     Listing { verdict, list }
+    Header { extended, count, id, power_role, revision, data_role, message_type }
+    Message { header, words }
+    MessageReading { verdict, message }
+    Written { verdict, length }
+    Lent { bytes, length }
     Profile { max.0, present.0, cable, rounding, pps, flags }
     Profiled { verdict, profile }
     Row { max.0, pps, cable, present.0, held.0 }
@@ -129,6 +136,17 @@ pub fn of_all_calls() -> Streams {
     });
     all.add(objects::answers(), hardest::answers(), |(l, w)| {
         library::answer(*l, *w)
+    });
+    all.add(messages::bytes(), hardest::bytes(), |b| {
+        library::read_message(b.first())
+    });
+    all.add(messages::bytes(), hardest::bytes(), |b| {
+        library::take_message(b.first())
+    });
+    all.add(messages::messages(), hardest::messages(), |(m, room)| {
+        let mut buffer = [0xAA; ROOM];
+        let written = library::write_message(&mut buffer[..usize::from(*room)], *m);
+        (written, buffer)
     });
     all.add_port_call(tables::fresh(), full(), |rows, t| {
         library::set_up(rows, t.capacity)

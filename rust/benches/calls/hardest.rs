@@ -3,10 +3,12 @@
 
 use crate::inputs::Turn;
 use crate::lists::{fixed, push};
+use crate::messages::{lent, Lent, ROOM};
 use crate::tables::NO_ROW;
 use crate::wrappers::library::{attach, build, decode, detach, flat_read, request, set_up, shape};
 use arinduleu::flat::FlatObjects;
 use arinduleu::lists::Words;
+use arinduleu::messages::{Header, Message};
 use arinduleu::objects::{Decoded, Object};
 use arinduleu::ports::Row;
 use arinduleu::rules::Profile;
@@ -145,6 +147,23 @@ fn requests(list: Words) -> impl Iterator<Item = (Words, u32)> {
 
 pub fn answers() -> Vec<(Words, u32)> {
     lists().into_iter().flat_map(requests).collect()
+}
+
+/// Every field of the header that is carried has all its bits.
+pub fn messages() -> Vec<(Message, u8)> {
+    let header = Header {
+        id: 7,
+        power_role: 1,
+        revision: 3,
+        data_role: 1,
+        ..Header::default()
+    };
+    let message = |list| (Message::source_capabilities(header, list), ROOM as u8);
+    lists().into_iter().map(message).collect()
+}
+
+pub fn bytes() -> Vec<Lent> {
+    messages().into_iter().map(|(m, _)| lent(m)).collect()
 }
 
 /// Eight ports of every maximum that all have a cable and hold what the last of their list gives. The last port is asked for each place of its

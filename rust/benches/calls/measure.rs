@@ -1,7 +1,9 @@
 //! How a call is measured: the same inputs on both sides, in rounds by turns.
 
 use crate::inputs::Turn;
+use crate::messages::ROOM;
 use crate::translate::{Plain, PlainTurn};
+use arinduleu::messages::{Message, Written};
 use arinduleu::ports::Row as PortRow;
 use std::hint::black_box;
 use std::time::{Duration, Instant};
@@ -97,6 +99,40 @@ where
                 let (mut own, mut other) = (a.rows, b.rows);
                 let answer = library(&mut own[..a.count], a).plain();
                 answer != model(&mut other[..b.count], b) || own.plain() != other
+            })
+        }),
+    }
+}
+
+/// A call that writes a message has one buffer for all of them: what stands in it does not matter.
+fn over_buffer<M, R>(messages: &[(M, u8)], call: impl Fn(&mut [u8], &M) -> R) {
+    let mut buffer = [0; ROOM];
+    for input in messages {
+        let (message, room) = black_box(input);
+        let lent = &mut buffer[..usize::from(*room)];
+        black_box(&call(lent, message));
+        black_box(&buffer);
+    }
+}
+
+pub fn writing_call(
+    messages: Vec<(Message, u8)>,
+    library: impl Fn(&mut [u8], &Message) -> Written + Copy + 'static,
+    model: impl Fn(&mut [u8], &model::Message) -> model::Written + Copy + 'static,
+) -> Call {
+    let plain: Vec<(model::Message, u8)> = messages.iter().map(Plain::plain).collect();
+    let (ours, theirs) = (messages.clone(), plain.clone());
+    Call {
+        inputs: messages.len(),
+        library: Box::new(move || over_buffer(&messages, library)),
+        model: Box::new(move || over_buffer(&plain, model)),
+        differs: Box::new(move || {
+            let mut pairs = ours.iter().zip(&theirs);
+            pairs.position(|((a, room), (b, _))| {
+                let (mut own, mut other) = ([0xAA; ROOM], [0xAA; ROOM]);
+                let lent = usize::from(*room);
+                let answer = library(&mut own[..lent], a).plain();
+                answer != model(&mut other[..lent], b) || own != other
             })
         }),
     }

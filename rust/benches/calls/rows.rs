@@ -2,7 +2,8 @@
 
 use crate::inputs;
 use crate::lists;
-use crate::measure::{call, port_call, Row};
+use crate::measure::{call, port_call, writing_call, Row};
+use crate::messages;
 use crate::objects;
 use crate::tables;
 use crate::wrappers::{library, plain};
@@ -38,6 +39,7 @@ macro_rules! port_row {
 pub fn all() -> Vec<Row> {
     let mut rows = of_the_loop();
     rows.extend(of_lists());
+    rows.extend(of_messages());
     rows.extend(of_ports());
     rows.extend(of_objects());
     rows.extend(of_steps());
@@ -63,6 +65,25 @@ fn of_lists() -> Vec<Row> {
         row!("arin_answer", objects::answers(), answer as fn(_, _) -> _ | fn(&_, _) -> _, |(l, w)| (*l, *w), |(l, w)| (l, *w)),
         row!("lists::read", lists::lists(), read as fn(_) -> _ | fn(&_) -> _, |l| (*l), |l| (l)),
         row!("lists::write", lists::object_lists(), write as fn(_) -> _ | fn(&_) -> _, |l| (*l), |l| (l)),
+    ]
+}
+
+fn of_messages() -> Vec<Row> {
+    vec![
+        row!("arin_read_message", messages::bytes(), read_message as fn(&_) -> _ | fn(&_) -> _, |b| (b.first()), |b| (b.first())),
+        row!("arin_take_message", messages::bytes(), take_message as fn(&_) -> _ | fn(&_) -> _, |b| (b.first()), |b| (b.first())),
+        Row {
+            name: "arin_write_message",
+            make: || {
+                let ours: fn(&mut _, _) -> _ = black_box(library::write_message);
+                let theirs: fn(&mut _, &_) -> _ = black_box(plain::write_message);
+                writing_call(
+                    messages::messages(),
+                    move |buffer, m| ours(buffer, *m),
+                    theirs,
+                )
+            },
+        },
     ]
 }
 

@@ -1,8 +1,10 @@
 //! The library's values as the model's. All of it is done before the clock runs.
 
 use crate::inputs::Turn;
+use crate::messages::Lent;
 use arinduleu::flat::{FlatObject, FlatObjects, FlatReading, Raised};
 use arinduleu::lists::{Listing, Objects, Reading, Words};
+use arinduleu::messages::{Header, Message, MessageReading, Written};
 use arinduleu::objects::{Decoded, Encoded, Object};
 use arinduleu::ports::{RemainingPower, Row};
 use arinduleu::requests::{Asked, Request};
@@ -27,7 +29,7 @@ macro_rules! same {
     )*};
 }
 
-same! { bool u8 u16 u32 }
+same! { bool u8 u16 u32 Lent }
 
 impl<A: Plain, B: Plain> Plain for (A, B) {
     type Model = (A::Model, B::Model);
@@ -77,6 +79,13 @@ translate! {
     Verdict => model::Verdict: |v| model::Verdict { number: v.number, place: v.place };
     Words => model::Words: |l| model::Words { words: l.words, count: l.count };
     Listing => model::Listing: |l| model::Listing { verdict: l.verdict.plain(), list: l.list.plain() };
+    Header => model::Header: |h| model::Header {
+        extended: h.extended, count: h.count, id: h.id, power_role: h.power_role, revision: h.revision, data_role: h.data_role,
+        message_type: h.message_type,
+    };
+    Message => model::Message: |m| model::Message { header: m.header.plain(), words: m.words };
+    MessageReading => model::MessageReading: |r| model::MessageReading { verdict: r.verdict.plain(), message: r.message.plain() };
+    Written => model::Written: |w| model::Written { verdict: w.verdict.plain(), length: w.length };
     Profile => model::Profile: |p| model::Profile {
         max: p.max.0, present: p.present.0, cable: p.cable, rounding: p.rounding, pps: p.pps, flags: p.flags,
     };

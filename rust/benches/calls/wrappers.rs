@@ -14,6 +14,7 @@ pub mod library {
     use arinduleu::board;
     use arinduleu::flat::{self, FlatObject, FlatObjects, FlatReading, Raised};
     use arinduleu::lists::{self, Listing, Objects, Reading, Words};
+    use arinduleu::messages::{Message, MessageReading, Written};
     use arinduleu::objects::{self, Decoded, Encoded, Object};
     use arinduleu::ports::{RemainingPower, Row};
     use arinduleu::requests::{self, Asked};
@@ -34,6 +35,10 @@ pub mod library {
         flat_read(list: Words) -> FlatReading = board::arin_read(list);
         flat_write(list: FlatObjects) -> Listing = board::arin_write(list);
         answer(list: Words, word: u32) -> Verdict = board::arin_answer(list, word);
+
+        read_message(bytes: &[u8]) -> MessageReading = board::arin_read_message(bytes);
+        take_message(bytes: &[u8]) -> MessageReading = board::arin_take_message(bytes);
+        write_message(bytes: &mut [u8], message: Message) -> Written = board::arin_write_message(bytes, message);
 
         set_up(rows: &mut [Row], capacity: u16) -> Verdict = board::arin_set_up(rows, capacity);
         attach(rows: &mut [Row], capacity: u16, port: u8, cable: u8) -> Listing = board::arin_attach(rows, capacity, port, cable);
@@ -65,8 +70,8 @@ pub mod library {
 
 pub mod plain {
     use model::{
-        Asked, FlatObject, FlatObjects, FlatReading, Listing, Object, Objects, Profile, Profiled,
-        Reading, RemainingPower, Row, Verdict, Words,
+        Asked, FlatObject, FlatObjects, FlatReading, Listing, Message, MessageReading, Object,
+        Objects, Profile, Profiled, Reading, RemainingPower, Row, Verdict, Words, Written,
     };
 
     wrap! {
@@ -80,6 +85,10 @@ pub mod plain {
         flat_read(list: &Words) -> FlatReading = model::flat_read(list);
         flat_write(list: &FlatObjects) -> Listing = model::flat_write(list);
         answer(list: &Words, word: u32) -> Verdict = model::answer(list, word);
+
+        read_message(bytes: &[u8]) -> MessageReading = model::read_message(bytes);
+        take_message(bytes: &[u8]) -> MessageReading = model::take_message(bytes);
+        write_message(bytes: &mut [u8], message: &Message) -> Written = model::write_message(bytes, message);
 
         set_up(rows: &mut [Row], capacity: u16) -> Verdict = model::set_up(rows, capacity);
         attach(rows: &mut [Row], capacity: u16, port: u8, cable: u8) -> Listing = model::attach(rows, capacity, port, cable);
