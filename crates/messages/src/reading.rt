@@ -1,9 +1,11 @@
 // Reading: from bytes to a message.
 ghost use mathlib.Core.Path.{_≡_};
-ghost use Prim.Native.Nat.{_+_, _*_, _≤_};
+ghost use Prim.Native.Nat.{_≤_};
 ghost use lib.ListN.{length};
+ghost use Rattle.messages.specs.Headers.{lengthOf};
 ghost use Rattle.messages.specs.Reading.{wordsIn, readingRefused};
 ghost use Rattle.messages.specs.Promises.{TakesMessage, ReadsMessage};
+use crate::Header;
 use crate::Message;
 use crate::MessageReading;
 use crate::NO_MESSAGE;
@@ -23,20 +25,24 @@ fn refuse(number: u8, place: u8) -> MessageReading
     }
 }
 
-// The words behind the header.
-fn words_in(bytes: &[u8], count: usize) -> [u32; 7]
-    requires { ⌜ (count ≤ 7) × (length (now bytes) ≡ 2 + 4 * count) ⌝ }
-    ensures { λ r. ⌜ r ≡ wordsIn (now (bytes .entry)) count ⌝ }
+// The header, and the words behind it, where they will stand.
+fn message_in(bytes: &[u8], header: Header) -> Message
+    requires { ⌜ (header .count ≤ 7) × (length (now bytes) ≡ lengthOf header) ⌝ }
+    ensures { λ r. ⌜ r ≡ record { header = header; words = wordsIn (now (bytes .entry)) (header .count) } ⌝ }
 {
-    let mut words = [0u32; 7];
+    let count = header.count as usize;
+    let mut message = Message {
+        header,
+        words: [0; 7],
+    };
     let mut i = 0;
     while i < count {
         let at = 2 + 4 * i;
         let end = at + 4;
-        words[i] = word_of(&bytes[at..end]);
+        message.words[i] = word_of(&bytes[at..end]);
         i += 1;
     }
-    words
+    message
 }
 
 // A message taken apart, whether its list has its shape or not. Refusals: 40, 42, 41, 53, with place 0.
@@ -56,11 +62,8 @@ pub fn take_message(bytes: &[u8]) -> MessageReading
     if verdict.number != verdicts::SUCCESS {
         return refuse(verdict.number, verdict.place);
     }
-    let words = words_in(bytes, count);
-    MessageReading {
-        verdict,
-        message: Message { header, words },
-    }
+    let message = message_in(bytes, header);
+    MessageReading { verdict, message }
 }
 
 // A message whose list, where it is a Source_Capabilities, has its shape. Refusals: 40, 42, 41, 53, with place 0; then for a

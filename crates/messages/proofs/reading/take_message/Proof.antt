@@ -9,6 +9,7 @@ use Rattle.verdicts.specs.declared.Verdict.{Verdict}
 use Rattle.verdicts.specs.Refusals.{success, verdictOf}
 use Rattle.verdicts.proofs.First.{passes}
 use Rattle.messages.specs.declared.Header.{Header}
+use Rattle.messages.specs.declared.Message.{Message}
 use Rattle.messages.specs.declared.MessageReading.{MessageReading}
 use Rattle.messages.specs.LowFirst.{halfAt}
 use Rattle.messages.specs.Headers.{headerOf, lengthOf}
@@ -19,9 +20,6 @@ use Rattle.messages.proofs.Parts.{half-in-part}
 use Rattle.messages.proofs.Readings.{too-few-bytes, other-length, header-refused, taken-apart}
 use Rattle.messages.proofs.reading.take_message.Statement.{statement}
 use Rattle.messages.proofs.reading.take_message.Tie as tie
-
-abbrev given : Verdict → Header → List ℕ → MessageReading
-given v h ws = record { verdict = v; message = record { header = h; words = ws } }
 
 -- what is known once the header is there
 
@@ -97,8 +95,8 @@ returns-3 c =
     ∙ ap (λ (v : Verdict). readingRefused (v .number) (v .place)) e
     ∙ sym (header-refused _ (long-enough judged) (its-length (judged .before)) (λ z. c .before .if3 .taken (ap (λ (v : Verdict). v .number) e ∙ z)))
 
-words-in-requires : tie.Need-words-in-requires
-words-in-requires c κs =
+message-in-requires : tie.Need-message-in-requires
+message-in-requires c κs =
     let made = c .before .before .before .before .before in (
       subst (λ (h : Header). h .count ≤ 7) (sym (header-is made)) (taken-count (halfAt (made .before .before .before .before .before .args .bytes .now) 0)),
       c .before .before .before .if2 .left,
@@ -111,8 +109,8 @@ returns-4 c =
     let bs = made .before .before .before .before .before .args .bytes .now in
     let e = verdict-is judged in
     let z = sym (ap (λ (v : Verdict). v .number) e) ∙ c .before .if3 .left in
-    ap₂ (λ (v : Verdict) (ws : List ℕ). given v (made .header-of .result) ws) (e ∙ passes (headerRefusals (headerIn bs)) refl z) (c .words-in .ensures)
-    ∙ ap (λ (h : Header). given success h (wordsIn bs (h .count))) (header-is made)
+    ap₂ (λ (v : Verdict) (m : Message). record { verdict = v; message = m }) (e ∙ passes (headerRefusals (headerIn bs)) refl z) (c .message-in .ensures)
+    ∙ ap (λ (h : Header). record { verdict = success; message = record { header = h; words = wordsIn bs (h .count) } }) (header-is made)
     ∙ sym (taken-apart bs (long-enough judged) (its-length (judged .before)) z)
 
 pub take-message-spec : {M : Type 1} → statement M
@@ -134,5 +132,5 @@ take-message-spec =
     judge-header-requires
     refuse-requires-3
     returns-3
-    words-in-requires
+    message-in-requires
     returns-4)

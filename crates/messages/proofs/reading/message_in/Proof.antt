@@ -1,4 +1,4 @@
--- `messages::reading::words_in` meets its contract: the invariant is that the words so far are those of the bytes.
+-- `messages::reading::message_in` meets its contract: the invariant is that the words so far are those of the bytes.
 -- Assumes nothing.
 use borrow.Author.Needs.{needs}
 use mathlib.Core.Path.{_≡_, refl, ap, ap₂, sym, _∙_}
@@ -6,22 +6,29 @@ use mathlib.Core.List.{List}
 use Prim.Native.Nat.{ℕ, _+_, _-_, _*_, _≤_, _<_}
 use native.Mathlib.Omega.{arith}
 use lib.ListN.{set}
-use Rattle.lists.specs.Seven.{sevenTo}
 use Rattle.lists.proofs.Sevens.{none-filled, one-filled}
+use Rattle.messages.specs.declared.Header.{Header}
+use Rattle.messages.specs.declared.Message.{Message}
 use Rattle.messages.specs.LowFirst.{wordAt}
 use Rattle.messages.specs.Reading.{wordsIn}
 use Rattle.messages.proofs.Parts.{part-length, word-in-part}
-use Rattle.messages.proofs.reading.words_in.Statement.{statement}
-use Rattle.messages.proofs.reading.words_in.Tie as tie
+use Rattle.messages.proofs.reading.message_in.Statement.{statement}
+use Rattle.messages.proofs.reading.message_in.Tie as tie
+
+abbrev carrying : Header → List ℕ → Message
+carrying h ws = record { header = h; words = ws }
 
 abbrev Inv-loop : tie.InvT-loop
-Inv-loop bytes count words₀ i₀ words i = (i ≤ count) × (words ≡ wordsIn bytes i)
+Inv-loop bytes count message₀ i₀ message i = (i ≤ count) × (message ≡ carrying (message₀ .header) (wordsIn bytes i))
 
 abbrev μ-loop : tie.MeasureT-loop
-μ-loop bytes count words₀ i₀ words i = count - i
+μ-loop bytes count message₀ i₀ message i = count - i
+
+cast-count : tie.Need-cast-count Inv-loop μ-loop
+cast-count c = search needs
 
 loop-holds : tie.Need-loop-holds Inv-loop μ-loop
-loop-holds c = (search needs, none-filled _ _)
+loop-holds c = (search needs, ap (carrying (c .before .before .args .header)) (none-filled _ _))
 
 mul-at : tie.Need-mul-at Inv-loop μ-loop
 mul-at c = search needs
@@ -44,14 +51,14 @@ part-word-of-end c = search needs
 word-of-requires : tie.Need-word-of-requires Inv-loop μ-loop
 word-of-requires c κs =
     let turn = c .before .before .loop in
-    let start = c .before .before .before .before in
+    let start = c .before .before .before .before .before in
     part-length (start .args .bytes .now) (2 + 4 * turn .i) 4 (omega arith)
 
-mul-words : tie.Need-mul-words Inv-loop μ-loop
-mul-words c = search needs
+mul-message : tie.Need-mul-message Inv-loop μ-loop
+mul-message c = search needs
 
-array-write-words : tie.Need-array-write-words Inv-loop μ-loop
-array-write-words c = search needs
+element-write-message : tie.Need-element-write-message Inv-loop μ-loop
+element-write-message c = search needs
 
 add-i : tie.Need-add-i Inv-loop μ-loop
 add-i c = search needs
@@ -62,25 +69,28 @@ loop-less c = search needs
 loop-again : tie.Need-loop-again Inv-loop μ-loop
 loop-again c =
     let turn = c .before .before .before .loop in
-    let bs = c .before .before .before .before .before .args .bytes .now in (
+    let start = c .before .before .before .before .before .before in
+    let bs = start .args .bytes .now in
+    let h = start .args .header in (
       search needs,
-      ap₂ (λ (ws : List ℕ) (w : ℕ). set ws (turn .i) w) (turn .inv .1) (c .word-of .ensures ∙ word-in-part bs (2 + 4 * turn .i))
-          ∙ one-filled (λ (k : ℕ). wordAt bs (2 + 4 * k)) 0 (turn .i) (omega arith),
+      ap₂ (λ (m : Message) (w : ℕ). carrying (m .header) (set (m .words) (turn .i) w)) (turn .inv .1) (c .word-of .ensures ∙ word-in-part bs (2 + 4 * turn .i))
+          ∙ ap (carrying h) (one-filled (λ (k : ℕ). wordAt bs (2 + 4 * k)) 0 (turn .i) (omega arith)),
     )
 
 returns : tie.Need-returns Inv-loop μ-loop
 returns c =
     let turn = c .before .loop in
-    let start = c .before .before .before in
-    let e : turn .i ≡ start .args .count = omega arith in
-    turn .inv .1 ∙ ap (wordsIn (start .args .bytes .now)) e
+    let start = c .before .before .before .before in
+    let e : turn .i ≡ start .args .header .count = omega arith in
+    turn .inv .1 ∙ ap (λ (n : ℕ). carrying (start .args .header) (wordsIn (start .args .bytes .now) n)) e
 
-pub words-in-spec : {M : Type 1} → statement M
-words-in-spec =
+pub message-in-spec : {M : Type 1} → statement M
+message-in-spec =
     tie.close
     (tie.spec
     Inv-loop
     μ-loop
+    cast-count
     loop-holds
     mul-at
     add-at
@@ -89,8 +99,8 @@ words-in-spec =
     part-word-of-start
     part-word-of-end
     word-of-requires
-    mul-words
-    array-write-words
+    mul-message
+    element-write-message
     add-i
     loop-less
     loop-again
