@@ -3,7 +3,7 @@
 usage: python3 tools/claims.py [--list] [ROOT]
 
 A claim is a type without arguments in crates/demands/specs: `abbrev pub NAME : Type 0` or `pub record NAME : Type 0`. To state one
-proves nothing, so each has a theorem, `pub name : NAME` in crates/demands/proofs. The records in VALUES are no claims: they say what
+proves nothing, so each has a theorem, `pub name : NAME` in crates/demands/proofs. The names in VALUES are no claims: they say what
 a thing is made of. --list prints each claim with its theorem.
 """
 
@@ -13,7 +13,7 @@ from pathlib import Path
 
 SPECS = "crates/demands/specs"
 PROOFS = "crates/demands/proofs"
-VALUES = {"Known", "Library"}
+VALUES = {"Known", "Library", "Reader", "Writer"}
 CLAIM = re.compile(r"(?:abbrev pub|pub record) (\S+) : Type \d+(?: where)?$")
 THEOREM = re.compile(r"pub (\S+) : (\S+)$")
 

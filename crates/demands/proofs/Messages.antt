@@ -17,6 +17,7 @@ use Rattle.messages.specs.Promises.{WritesMessage}
 use Rattle.messages.proofs.Accepted.{Writable, writable, writes, lays, front, taken-again, read-again, Takeable, takeable, readable, takes, reads, writable-again, laid-again, rest-stays}
 use Rattle.messages.proofs.Unread.{written-unread, buffer-unread}
 use Rattle.demands.specs.Messages.{WriteThenReadMessage, WriteThenTakeMessage, ReadThenWriteMessage, TakeThenWriteMessage, WriteKeepsTheRest, SameBytes, ReadLooksAtTheBytes, TakeLooksAtTheBytes, WriteMessageDoesNotLook}
+use Rattle.demands.specs.Messages.{ArinWriteThenReadMessage, ArinWriteThenTakeMessage, ArinReadThenWriteMessage, ArinTakeThenWriteMessage, ArinWriteKeepsTheRest, ArinReadLooksAtTheBytes, ArinTakeLooksAtTheBytes, ArinWriteMessageDoesNotLook}
 
 -- ---- what was written
 
@@ -91,3 +92,29 @@ take-looks-at-the-bytes bs cs s r t e f = e ∙ ap takenOf (same-bytes bs cs s) 
 pub write-message-does-not-look : WriteMessageDoesNotLook
 write-message-does-not-look bs m n a r s cs ds e f =
     (e .0 ∙ written-unread m n a (length bs) ∙ sym (f .0), e .1 ∙ buffer-unread m n a bs ∙ sym (f .1))
+
+-- ---- board: the contracts are those of the floor below
+
+pub arin-write-then-read-message : ArinWriteThenReadMessage
+arin-write-then-read-message = write-then-read-message
+
+pub arin-write-then-take-message : ArinWriteThenTakeMessage
+arin-write-then-take-message = write-then-take-message
+
+pub arin-read-then-write-message : ArinReadThenWriteMessage
+arin-read-then-write-message = read-then-write-message
+
+pub arin-take-then-write-message : ArinTakeThenWriteMessage
+arin-take-then-write-message = take-then-write-message
+
+pub arin-write-keeps-the-rest : ArinWriteKeepsTheRest
+arin-write-keeps-the-rest = write-keeps-the-rest
+
+pub arin-read-looks-at-the-bytes : ArinReadLooksAtTheBytes
+arin-read-looks-at-the-bytes = read-looks-at-the-bytes
+
+pub arin-take-looks-at-the-bytes : ArinTakeLooksAtTheBytes
+arin-take-looks-at-the-bytes = take-looks-at-the-bytes
+
+pub arin-write-message-does-not-look : ArinWriteMessageDoesNotLook
+arin-write-message-does-not-look = write-message-does-not-look

@@ -13,43 +13,76 @@ use Rattle.messages.specs.declared.MessageReading.{MessageReading}
 use Rattle.messages.specs.declared.Written.{Written}
 use Rattle.messages.specs.Kept.{keptMessage, Bytes8, MessageWords32, AgreeMessages}
 use Rattle.messages.specs.Promises.{TakesMessage, ReadsMessage, WritesMessage}
+use Rattle.board.specs.MessagePromises.{ArinTakesMessage, ArinReadsMessage, ArinWritesMessage}
+
+-- what a call that reads, or takes apart, and a call that writes allow
+abbrev pub Reader : Type 1
+Reader = List ℕ → MessageReading → Type 0
+
+abbrev pub Writer : Type 1
+Writer = List ℕ → Message → Written → List ℕ → Type 0
 
 -- ---- "Reading what was written gives the same header and the same words up to the count."
 
 -- a message that was written is read from as many bytes as writing said; its words past the count come back as zero
+abbrev pub WriteThenRead : Writer → Reader → Type 0
+WriteThenRead writes reads =
+    (bs : List ℕ) (m : Message) → MessageWords32 m → (r : Written) (cs : List ℕ) → writes bs m r cs → r .verdict ≡ success
+    → (x : MessageReading) → reads (take (r .length) cs) x → x ≡ record { verdict = success; message = keptMessage m }
+
 abbrev pub WriteThenReadMessage : Type 0
-WriteThenReadMessage =
-    (bs : List ℕ) (m : Message) → MessageWords32 m → (r : Written) (cs : List ℕ) → WritesMessage bs m r cs → r .verdict ≡ success
-    → (x : MessageReading) → ReadsMessage (take (r .length) cs) x → x ≡ record { verdict = success; message = keptMessage m }
+WriteThenReadMessage = WriteThenRead WritesMessage ReadsMessage
 
 abbrev pub WriteThenTakeMessage : Type 0
-WriteThenTakeMessage =
-    (bs : List ℕ) (m : Message) → MessageWords32 m → (r : Written) (cs : List ℕ) → WritesMessage bs m r cs → r .verdict ≡ success
-    → (x : MessageReading) → TakesMessage (take (r .length) cs) x → x ≡ record { verdict = success; message = keptMessage m }
+WriteThenTakeMessage = WriteThenRead WritesMessage TakesMessage
 
--- ---- "Writing what was read gives the same bytes, whatever stood in the buffer."
+abbrev pub ArinWriteThenReadMessage : Type 0
+ArinWriteThenReadMessage = WriteThenRead ArinWritesMessage ArinReadsMessage
 
--- into any buffer that is long enough, whose other bytes stay
-abbrev pub ReadThenWriteMessage : Type 0
-ReadThenWriteMessage =
-    (bs : List ℕ) → Bytes8 bs → (x : MessageReading) → ReadsMessage bs x → x .verdict ≡ success
-    → (ys : List ℕ) → length bs ≤ length ys → (r : Written) (zs : List ℕ) → WritesMessage ys (x .message) r zs
+abbrev pub ArinWriteThenTakeMessage : Type 0
+ArinWriteThenTakeMessage = WriteThenRead ArinWritesMessage ArinTakesMessage
+
+-- ---- "Writing what was read gives the same bytes, whatever stood in the buffer, where there is room for them."
+
+-- the other bytes of the buffer stay
+abbrev pub ReadThenWrite : Reader → Writer → Type 0
+ReadThenWrite reads writes =
+    (bs : List ℕ) → Bytes8 bs → (x : MessageReading) → reads bs x → x .verdict ≡ success
+    → (ys : List ℕ) → length bs ≤ length ys → (r : Written) (zs : List ℕ) → writes ys (x .message) r zs
     → (r ≡ record { verdict = success; length = length bs }) × (zs ≡ bs ++ drop (length bs) ys)
 
--- what was taken apart may have a list that is refused; where it is written, the bytes are the same
-abbrev pub TakeThenWriteMessage : Type 0
-TakeThenWriteMessage =
-    (bs : List ℕ) → Bytes8 bs → (x : MessageReading) → TakesMessage bs x → x .verdict ≡ success
-    → (ys : List ℕ) (r : Written) (zs : List ℕ) → WritesMessage ys (x .message) r zs → r .verdict ≡ success
+abbrev pub ReadThenWriteMessage : Type 0
+ReadThenWriteMessage = ReadThenWrite ReadsMessage WritesMessage
+
+abbrev pub ArinReadThenWriteMessage : Type 0
+ArinReadThenWriteMessage = ReadThenWrite ArinReadsMessage ArinWritesMessage
+
+-- "a list whose shape fails can be taken apart and not written": where it is written, the bytes are the same
+abbrev pub TakeThenWrite : Reader → Writer → Type 0
+TakeThenWrite takes writes =
+    (bs : List ℕ) → Bytes8 bs → (x : MessageReading) → takes bs x → x .verdict ≡ success
+    → (ys : List ℕ) (r : Written) (zs : List ℕ) → writes ys (x .message) r zs → r .verdict ≡ success
     → (r .length ≡ length bs) × (zs ≡ bs ++ drop (length bs) ys)
+
+abbrev pub TakeThenWriteMessage : Type 0
+TakeThenWriteMessage = TakeThenWrite TakesMessage WritesMessage
+
+abbrev pub ArinTakeThenWriteMessage : Type 0
+ArinTakeThenWriteMessage = TakeThenWrite ArinTakesMessage ArinWritesMessage
 
 -- ---- "The bytes of the buffer past that are as they were; on a refusal every byte is, and the length is 0."
 
 -- the length that is answered says which bytes may differ, and a refusal answers 0
-abbrev pub WriteKeepsTheRest : Type 0
-WriteKeepsTheRest =
-    (bs : List ℕ) (m : Message) (r : Written) (cs : List ℕ) → WritesMessage bs m r cs
+abbrev pub KeepsTheRest : Writer → Type 0
+KeepsTheRest writes =
+    (bs : List ℕ) (m : Message) (r : Written) (cs : List ℕ) → writes bs m r cs
     → (length cs ≡ length bs) × (drop (r .length) cs ≡ drop (r .length) bs)
+
+abbrev pub WriteKeepsTheRest : Type 0
+WriteKeepsTheRest = KeepsTheRest WritesMessage
+
+abbrev pub ArinWriteKeepsTheRest : Type 0
+ArinWriteKeepsTheRest = KeepsTheRest ArinWritesMessage
 
 -- ---- "The answer of reading and of taking apart depends on nothing but the bytes that are lent"
 
@@ -58,16 +91,31 @@ pub record SameBytes (bs cs : List ℕ) : Type 0 where
   pub number : length bs ≡ length cs
   pub each : (k : ℕ) → k < length bs → getD bs k 0 ≡ getD cs k 0
 
+abbrev pub LooksAtTheBytes : Reader → Type 0
+LooksAtTheBytes reads = (bs cs : List ℕ) → SameBytes bs cs → (r s : MessageReading) → reads bs r → reads cs s → r ≡ s
+
 abbrev pub ReadLooksAtTheBytes : Type 0
-ReadLooksAtTheBytes = (bs cs : List ℕ) → SameBytes bs cs → (r s : MessageReading) → ReadsMessage bs r → ReadsMessage cs s → r ≡ s
+ReadLooksAtTheBytes = LooksAtTheBytes ReadsMessage
 
 abbrev pub TakeLooksAtTheBytes : Type 0
-TakeLooksAtTheBytes = (bs cs : List ℕ) → SameBytes bs cs → (r s : MessageReading) → TakesMessage bs r → TakesMessage cs s → r ≡ s
+TakeLooksAtTheBytes = LooksAtTheBytes TakesMessage
+
+abbrev pub ArinReadLooksAtTheBytes : Type 0
+ArinReadLooksAtTheBytes = LooksAtTheBytes ArinReadsMessage
+
+abbrev pub ArinTakeLooksAtTheBytes : Type 0
+ArinTakeLooksAtTheBytes = LooksAtTheBytes ArinTakesMessage
 
 -- ---- "the words past it are not looked at"
 
 -- messages with the same header and the same words up to its count are written alike
-abbrev pub WriteMessageDoesNotLook : Type 0
-WriteMessageDoesNotLook =
+abbrev pub DoesNotLookPast : Writer → Type 0
+DoesNotLookPast writes =
     (bs : List ℕ) (m n : Message) → AgreeMessages m n
-    → (r s : Written) (cs ds : List ℕ) → WritesMessage bs m r cs → WritesMessage bs n s ds → (r ≡ s) × (cs ≡ ds)
+    → (r s : Written) (cs ds : List ℕ) → writes bs m r cs → writes bs n s ds → (r ≡ s) × (cs ≡ ds)
+
+abbrev pub WriteMessageDoesNotLook : Type 0
+WriteMessageDoesNotLook = DoesNotLookPast WritesMessage
+
+abbrev pub ArinWriteMessageDoesNotLook : Type 0
+ArinWriteMessageDoesNotLook = DoesNotLookPast ArinWritesMessage
