@@ -168,17 +168,17 @@ with_cxx() {
   run_calls "against the cargo library, c++"
 }
 
-# The code in the README's section for firmware that sets up rows, put into a function as it stands.
+# The code in the README's section for firmware that sets up rows, and then that on messages, put into a function as they stand.
 readme_snippet() {
   awk '
     /^## / { inside = $0 == "## From firmware" }
     inside && /^    / { block = block blank $0 "\n"; blank = ""; next }
     inside && /^$/ { blank = blank "\n"; next }
-    { if (block ~ /arin_set_up\(/) printf "%s", block; block = blank = "" }
+    { if (block ~ /arin_set_up\(|arin_write_message\(/) printf "%s", block; block = blank = "" }
   ' README.md > "$made/snippet"
   [ -s "$made/snippet" ] || fail "the README has no snippet for firmware"
   {
-    printf '#include <stdio.h>\n\n#include "arinduleu.h"\n\nint main(void)\n{\n'
+    printf '#include <stdio.h>\n#include <string.h>\n\n#include "arinduleu.h"\n\nint main(void)\n{\n'
     cat "$made/snippet"
     printf '    return 0;\n}\n'
   } > "$made/snippet.c"
@@ -186,10 +186,14 @@ readme_snippet() {
 
 # snippet_as LANGUAGE STANDARD COMPILER
 snippet_as() {
+  local line
   quietly "the README's snippet is not $2" \
     "$3" -x "$1" "-std=$2" "${warnings[@]}" -Iinclude "$made/snippet.c" -x none "rust/target/$cargo_library" -o "$made/pasted"
   limited "$made/pasted" > "$made/out" || fail "the README's snippet ended badly, as $2"
-  grep -qxF "    $(cat "$made/out")" README.md || fail "the README does not say what its snippet prints: $(cat "$made/out")"
+  [ "$(grep -c . "$made/out")" = 2 ] || fail "the README's snippet does not print two lines"
+  while IFS= read -r line; do
+    grep -qxF "    $line" README.md || fail "the README does not say what its snippet prints: $line"
+  done < "$made/out"
   pass "the README's snippet is $2 and prints what is said"
 }
 
