@@ -1,12 +1,9 @@
 -- Proves the claims of specs/MessageRefusals.antt: each call gives the first refusal of its table.
 -- Assumes nothing.
-use mathlib.Core.Path.{_≡_, refl, ap, _∙_}
-use mathlib.Core.List.{List}
-use Prim.Native.Nat.{ℕ}
+use mathlib.Core.Path.{refl, ap, _∙_}
 use lib.ListN.{length}
-use Rattle.verdicts.specs.Refusals.{Refusal, firstOf, success}
-use Rattle.verdicts.proofs.First.{numbered, telling-numbered, passes, refused-so}
-use Rattle.messages.specs.declared.Message.{Message}
+use Rattle.verdicts.specs.Refusals.{success}
+use Rattle.verdicts.proofs.First.{telling-numbered, passes, refused-so}
 use Rattle.messages.specs.declared.MessageReading.{MessageReading}
 use Rattle.messages.specs.declared.Written.{Written}
 use Rattle.messages.specs.Headers.{lengthOf}
@@ -15,7 +12,6 @@ use Rattle.messages.specs.Writing.{laidOver, writingRefused, writingRefusals, w
 use Rattle.messages.proofs.Readings.{taking-numbered, reading-numbered}
 use Rattle.messages.proofs.Writings.{writing-numbered}
 use Rattle.messages.proofs.Accepted.{written-verdict}
-use Rattle.demands.specs.Refusals.{Answers}
 use Rattle.demands.specs.MessageRefusals.{TakeMessageRefusals, ReadMessageRefusals, WriteMessageRefusals, ArinTakeMessageRefusals, ArinReadMessageRefusals, ArinWriteMessageRefusals}
 use Rattle.demands.proofs.Refusals.{answers-with}
 

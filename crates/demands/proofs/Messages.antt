@@ -1,17 +1,16 @@
 -- Proves the claims of specs/Messages.antt, by the laws of `messages`.
 -- Assumes nothing.
-use mathlib.Core.Path.{_≡_, refl, ap, ap₂, sym, subst, _∙_}
+use mathlib.Core.Path.{_≡_, ap, ap₂, sym, _∙_}
 use mathlib.Core.List.{List, _++_}
-use Prim.Native.Nat.{ℕ, _≤_}
+use Prim.Native.Nat.{ℕ}
 use lib.ListN.{length, take, drop}
 use lib.Seq.{ext-getD}
 use Rattle.verdicts.specs.Refusals.{success}
 use Rattle.messages.specs.declared.Message.{Message}
 use Rattle.messages.specs.declared.MessageReading.{MessageReading}
 use Rattle.messages.specs.declared.Written.{Written}
-use Rattle.messages.specs.Headers.{lengthOf}
-use Rattle.messages.specs.Reading.{messageIn, readAs, takenOf, messageReadOf}
-use Rattle.messages.specs.Writing.{bytesOf, laidOver, writtenOf, bufferAfter}
+use Rattle.messages.specs.Reading.{messageIn, takenOf, messageReadOf}
+use Rattle.messages.specs.Writing.{bytesOf, writtenOf, bufferAfter}
 use Rattle.messages.specs.Kept.{Bytes8}
 use Rattle.messages.specs.Promises.{WritesMessage}
 use Rattle.messages.proofs.Accepted.{Writable, writable, writes, lays, front, taken-again, read-again, Takeable, takeable, readable, takes, reads, writable-again, laid-again, rest-stays}

@@ -1,9 +1,9 @@
 -- What a success says of a message, and what then comes back.
 -- Assumes nothing.
 use mathlib.Core.Path.{_≡_, refl, ap, ap₂, sym, subst, _∙_}
-use mathlib.Core.Bool.{Bool, true, false, not, _||_}
-use mathlib.Core.List.{List, [], _∷_, _++_}
-use Prim.Native.Nat.{ℕ, _+_, _*_, _≤_, _<_}
+use mathlib.Core.Bool.{Bool, true, false, not}
+use mathlib.Core.List.{List, _∷_, _++_}
+use Prim.Native.Nat.{ℕ, _+_, _≤_}
 use native.Mathlib.Omega.{arith}
 use lib.Dec.{ltb, eqb}
 use lib.ListN.{length, take, drop, getD, length-append, length-drop}
@@ -25,8 +25,7 @@ use Rattle.messages.specs.Reading.{headerIn, messageIn, takingRefusals, 
 use Rattle.messages.specs.Writing.{bytesOf, writingRefusals, writingRefused, laidOver, writtenOf, bufferAfter}
 use Rattle.messages.specs.Kept.{keptMessage, Bytes8, MessageWords32, AgreeMessages}
 use Rattle.messages.proofs.HeaderFields.{taken-fit, fit-count}
-use Rattle.messages.proofs.Refusals.{list-numbered}
-use Rattle.messages.proofs.Readings.{wrongLength, taking-numbered, reading-numbered, taken-verdict, read-verdict, taken-apart, read-whole}
+use Rattle.messages.proofs.Readings.{taking-numbered, reading-numbered, taken-verdict, read-verdict, taken-apart, read-whole}
 use Rattle.messages.proofs.Writings.{writing-numbered, written}
 use Rattle.messages.proofs.RoundTrips.{header-back, message-back, bytes-length, bytes-back}
 use Rattle.messages.proofs.Unread.{list-unread}

@@ -1,15 +1,14 @@
 -- Laws of numbers as bytes, both ways: each byte is a field of eight bits, so the laws of fields say it.
 -- Assumes nothing.
-use mathlib.Core.Path.{_≡_, refl, ap, ap₂, sym, _∙_}
-use mathlib.Core.Bool.{true, _&&_, and-eq-true-iff}
+use mathlib.Core.Path.{_≡_, refl}
+use mathlib.Core.Bool.{true}
 use mathlib.Core.List.{List, [], _∷_}
-use Prim.Native.Nat.{ℕ, _+_, _^_, _<_}
+use Prim.Native.Nat.{ℕ, _^_, _<_}
 use native.Mathlib.Omega.{arith}
-use lib.Dec.{ltb}
 use lib.ListN.{length, set}
 use borrow.Author.Tests.{lt-ltb}
 use Rattle.objects.specs.Bits.{bits}
-use Rattle.objects.specs.Layout.{Field, field, allFit, joined}
+use Rattle.objects.specs.Layout.{allFit, joined}
 use Rattle.objects.proofs.Rows.{whole, parted}
 use Rattle.messages.specs.LowFirst.{twoBytes, fourBytes, twoFields, fourFields}
 

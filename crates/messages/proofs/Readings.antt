@@ -2,15 +2,14 @@
 -- Assumes nothing.
 use mathlib.Core.Path.{_≡_, refl, ap, sym, _∙_}
 use mathlib.Core.Bool.{Bool, true, false, not, _||_, or-true}
-use mathlib.Core.List.{List, [], _∷_, _++_}
+use mathlib.Core.List.{List}
 use Prim.Native.Nat.{ℕ, _≤_, _<_}
-use native.Mathlib.Omega.{arith}
 use lib.Dec.{ltb, eqb}
 use lib.ListN.{length}
 use borrow.Author.Tests.{lt-ltb, le-ltb, eq-eqb, ne-eqb}
 use Rattle.verdicts.specs.declared.Verdict.{Verdict}
-use Rattle.verdicts.specs.Refusals.{Refusal, firstOf, verdict, success, verdictOf, NoneApply}
-use Rattle.verdicts.proofs.First.{hit, miss, numbered, numbered-append, none-applied, none-append, all-missed, refused-so, onward, stops, goes-on, said-first}
+use Rattle.verdicts.specs.Refusals.{firstOf, verdict, verdictOf, NoneApply}
+use Rattle.verdicts.proofs.First.{hit, miss, numbered, numbered-append, none-applied, all-missed, refused-so, onward, stops, said-first}
 use Rattle.messages.specs.declared.MessageReading.{MessageReading}
 use Rattle.messages.specs.Headers.{lengthOf}
 use Rattle.messages.specs.Refusing.{headerRefusals, listRefusals}

@@ -1,15 +1,14 @@
 -- The cases of what is refused by the header, and by the list of a message.
 -- Assumes nothing.
-use mathlib.Core.Path.{_≡_, refl, ap, sym, _∙_}
+use mathlib.Core.Path.{_≡_, refl}
 use mathlib.Core.Bool.{Bool, true, false, cond}
-use mathlib.Core.List.{List, [], _∷_}
-use Prim.Native.Nat.{ℕ}
+use mathlib.Core.List.{[]}
 use lib.Dec.{eqb}
 use borrow.Author.Tests.{eq-eqb, ne-eqb}
-use Rattle.verdicts.specs.Refusals.{Refusal, firstOf, verdict, success, verdictOf}
+use Rattle.verdicts.specs.Refusals.{firstOf, verdict, success, verdictOf}
 use Rattle.verdicts.proofs.First.{numbered}
-use Rattle.lists.specs.Shape.{shapeRefusals, shapeOf}
-use Rattle.lists.proofs.Shapes.{shape-numbered, shape-verdict}
+use Rattle.lists.specs.Shape.{shapeRefusals}
+use Rattle.lists.proofs.Shapes.{shape-numbered}
 use Rattle.messages.specs.declared.Header.{Header}
 use Rattle.messages.specs.declared.Message.{Message}
 use Rattle.messages.specs.Refusing.{headerRefusals, listIn, listRefusals}

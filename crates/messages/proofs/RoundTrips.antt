@@ -14,7 +14,7 @@ use Rattle.objects.proofs.Rows.{joined-lt}
 use Rattle.lists.proofs.Sevens.{filled-at, same-seven}
 use Rattle.messages.specs.declared.Header.{Header}
 use Rattle.messages.specs.declared.Message.{Message}
-use Rattle.messages.specs.LowFirst.{twoBytes, fourBytes, twoFields, fourFields, halfAt, wordAt}
+use Rattle.messages.specs.LowFirst.{twoBytes, fourBytes, twoFields, halfAt, wordAt}
 use Rattle.messages.specs.Headers.{headerOf, fieldsOf, lengthOf}
 use Rattle.messages.specs.Reading.{headerIn, wordsIn, messageIn}
 use Rattle.messages.specs.Writing.{wordBytes, bytesOf}

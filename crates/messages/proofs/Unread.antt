@@ -6,7 +6,7 @@ use mathlib.Core.List.{List, [], _∷_, _++_}
 use Prim.Native.Nat.{ℕ, zero, suc, _<_}
 use native.Mathlib.Nat.{lt-suc-self}
 use native.Mathlib.Omega.{arith}
-use lib.Dec.{ltb, eqb}
+use lib.Dec.{ltb}
 use lib.ListN.{length, drop, getD}
 use Rattle.verdicts.specs.Refusals.{Refusal, refusal, firstOf, success}
 use Rattle.verdicts.proofs.First.{onward}

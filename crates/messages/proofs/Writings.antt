@@ -1,13 +1,13 @@
 -- The cases of writing a message. The answer and the buffer go by one table, so each case is said once, of any answer by that table.
 -- Assumes nothing.
-use mathlib.Core.Path.{_≡_, refl, ap, sym, _∙_}
-use mathlib.Core.Bool.{Bool, true, false, not}
+use mathlib.Core.Path.{_≡_, refl, _∙_}
+use mathlib.Core.Bool.{true, false, not}
 use mathlib.Core.List.{List, _∷_, _++_}
 use Prim.Native.Nat.{ℕ, _≤_, _<_}
 use lib.Dec.{ltb}
 use borrow.Author.Tests.{lt-ltb, le-ltb}
-use Rattle.verdicts.specs.Refusals.{Refusal, refusal, firstOf, verdictOf, NoneApply}
-use Rattle.verdicts.proofs.First.{hit, miss, numbered, numbered-append, none-applied, none-append, none-left, none-right, all-missed, refused-so, stops, goes-on}
+use Rattle.verdicts.specs.Refusals.{Refusal, refusal, firstOf, verdictOf}
+use Rattle.verdicts.proofs.First.{hit, miss, numbered, numbered-append, none-applied, all-missed, refused-so, stops, goes-on}
 use Rattle.objects.specs.Layout.{allFit}
 use Rattle.messages.specs.declared.Message.{Message}
 use Rattle.messages.specs.Headers.{fieldsOf, lengthOf}

@@ -1,7 +1,7 @@
 -- Reading a message and taking it apart (STATEMENT, "Messages").
 -- Assumes nothing.
 use mathlib.Core.Bool.{not, _||_}
-use mathlib.Core.List.{List, [], _∷_, _++_}
+use mathlib.Core.List.{List, _∷_, _++_}
 use Prim.Native.Nat.{ℕ, _+_, _*_}
 use lib.Dec.{eqb, ltb}
 use lib.ListN.{length, replicate}

@@ -1,7 +1,7 @@
 -- `messages::headers::half_of_header` meets its contract: the ors of fields that fit are a sum.
 -- Assumes nothing.
 use borrow.Author.Needs.{needs}
-use mathlib.Core.Path.{_≡_, refl, _∙_}
+use mathlib.Core.Path.{refl, _∙_}
 use mathlib.Core.List.{[], _∷_}
 use native.Mathlib.Omega.{arith}
 use Rattle.objects.specs.Layout.{field}

@@ -1,8 +1,8 @@
 -- `messages::low_first::put_half` meets its contract: a part of two bytes is the two that are put there.
 -- Assumes nothing.
 use borrow.Author.Needs.{needs}
-use mathlib.Core.Path.{_≡_, refl, ap₂, _∙_}
-use mathlib.Core.List.{List, [], _∷_}
+use mathlib.Core.Path.{ap₂, _∙_}
+use mathlib.Core.List.{[], _∷_}
 use Prim.Native.Nat.{ℕ}
 use Rattle.objects.proofs.Taking.{taken, taken-low, taken-fits, low-fits}
 use Rattle.messages.proofs.LowFirst.{all-two}

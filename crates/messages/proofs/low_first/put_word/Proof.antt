@@ -1,9 +1,7 @@
 -- `messages::low_first::put_word` meets its contract: a part of four bytes is the four that are put there.
 -- Assumes nothing.
 use borrow.Author.Needs.{needs}
-use mathlib.Core.Path.{_≡_, refl, ap₂, _∙_}
-use mathlib.Core.List.{List, [], _∷_}
-use Prim.Native.Nat.{ℕ}
+use mathlib.Core.Path.{_∙_}
 use Rattle.objects.proofs.Taking.{taken, taken-low, taken-fits, low-fits}
 use Rattle.messages.proofs.LowFirst.{all-four}
 use Rattle.messages.proofs.low_first.put_word.Statement.{statement}

@@ -2,15 +2,13 @@
 -- Assumes nothing.
 use borrow.Author.Needs.{needs}
 use mathlib.Core.Path.{_≡_, refl, ap, ap₂, sym, subst, _∙_}
-use mathlib.Core.List.{List}
-use Prim.Native.Nat.{ℕ, _≤_}
+use Prim.Native.Nat.{_≤_}
 use lib.ListN.{length}
 use Rattle.verdicts.specs.declared.Verdict.{Verdict}
 use Rattle.verdicts.specs.Refusals.{success, verdictOf}
 use Rattle.verdicts.proofs.First.{passes}
 use Rattle.messages.specs.declared.Header.{Header}
 use Rattle.messages.specs.declared.Message.{Message}
-use Rattle.messages.specs.declared.MessageReading.{MessageReading}
 use Rattle.messages.specs.LowFirst.{halfAt}
 use Rattle.messages.specs.Headers.{headerOf, lengthOf}
 use Rattle.messages.specs.Refusing.{headerRefusals}

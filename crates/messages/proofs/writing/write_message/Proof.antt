@@ -2,16 +2,15 @@
 -- Assumes nothing.
 use borrow.Author.Needs.{needs}
 use borrow.Author.Tests.{not-false}
-use mathlib.Core.Path.{_≡_, refl, ap, ap₂, sym, _∙_}
-use mathlib.Core.Bool.{true, false, not}
-use Prim.Native.Nat.{ℕ, _≤_}
+use mathlib.Core.Path.{_≡_, refl, ap, sym, _∙_}
+use mathlib.Core.Bool.{false, not}
+use Prim.Native.Nat.{_≤_}
 use native.Mathlib.Omega.{arith}
 use lib.ListN.{length}
 use Rattle.verdicts.specs.declared.Verdict.{Verdict}
 use Rattle.verdicts.specs.Refusals.{verdictOf, success}
 use Rattle.verdicts.proofs.First.{passes}
 use Rattle.objects.specs.Layout.{allFit}
-use Rattle.messages.specs.declared.Written.{Written}
 use Rattle.messages.specs.Headers.{fieldsOf, lengthOf}
 use Rattle.messages.specs.Refusing.{headerRefusals, listRefusals}
 use Rattle.messages.specs.Writing.{writingRefused, laidOver, writtenOf, bufferAfter}
