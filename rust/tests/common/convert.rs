@@ -1,7 +1,7 @@
 //! The library's values as the model's, which counts in plain numbers, and back.
 
 use arinduleu::steps::{HalfWatts, Ma10, Ma50, Mv100, Mv20, Mv25, Mv50, Mw250};
-use arinduleu::{flat, lists, objects, ports, requests, rules, verdicts};
+use arinduleu::{flat, lists, messages, objects, ports, requests, rules, verdicts};
 
 pub trait ToModel {
     type Model;
@@ -82,6 +82,10 @@ structs! {
         max100: Mv100, min100: Mv100, current50: Ma50, low: Ma10, high: Ma10
     } {}
     flat::FlatReading {} {} { verdict, list }
+    messages::Header { extended, count, id, power_role, revision, data_role, message_type } {} {}
+    messages::Message { words } {} { header }
+    messages::MessageReading {} {} { verdict, message }
+    messages::Written { length } {} { verdict }
 }
 
 enums! {

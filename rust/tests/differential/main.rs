@@ -7,6 +7,8 @@ mod by_value_stated;
 mod changes;
 mod lists;
 mod lists_made;
+mod messages;
+mod messages_made;
 mod names;
 mod objects_made;
 mod ports;
@@ -28,11 +30,18 @@ fn every_number_of_the_statement_belongs_to_a_part() {
         lists::NUMBERS,
         rules::NUMBERS,
         requests::NUMBERS,
+        messages::NUMBERS,
         ports::NUMBERS,
     ]
     .concat();
     all.sort();
     all.dedup();
-    let stated: Vec<u8> = (0..=7).chain(10..=20).chain(22..=25).chain(30..=37).collect();
+    let stated: Vec<u8> = (0..=7)
+        .chain(10..=20)
+        .chain(22..=25)
+        .chain(30..=37)
+        .chain(40..=42)
+        .chain(51..=53)
+        .collect();
     assert_eq!(all, stated);
 }
