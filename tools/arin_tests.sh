@@ -67,9 +67,9 @@ done
 arin nothing-known
 ends "an unknown word" 2 - "arin: unknown word 'nothing-known' (./arin --help tells)"
 arin
-ends "no word" 2 - ".*A peak low high"
+ends "no word" 2 - ".*EXT COUNT ID PROLE REV DROLE TYPE"
 arin --help
-ends "help" 0 ".*A peak low high" -
+ends "help" 0 ".*EXT COUNT ID PROLE REV DROLE TYPE" -
 arin caps --help
 ends "the help of caps" 0 "prints the listing of a 36 W port .*" -
 arin board --help

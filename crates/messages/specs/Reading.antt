@@ -34,7 +34,7 @@ takingRefusals bs =
 abbrev pub readingRefusals : List ℕ → List Refusal
 readingRefusals bs = takingRefusals bs ++ listRefusals (messageIn bs)
 
--- "On a refusal everything else in the answer is zero": the fields of a header of 16 zero bits are zero
+-- "a message is all zeros"
 abbrev pub noMessage : Message
 noMessage =
     record {
