@@ -133,7 +133,7 @@ enum arin_refusal {
 
     /* A message. The place is always 0. */
     ARIN_MESSAGE_LENGTH = 40,        /* fewer bytes than a header, or not as many as its count makes */
-    ARIN_MESSAGE_TYPE = 41,          /* type not 1 or 2 */
+    ARIN_TYPE_NOT_HANDLED = 41,      /* type not 1 or 2 */
     ARIN_EXTENDED_MESSAGE = 42,      /* extended set */
     ARIN_HEADER_FIELD_TOO_WIDE = 51, /* in writing, a field of the header too wide for its bits */
     ARIN_BUFFER_TOO_SHORT = 52,      /* in writing, a buffer too short for the message */
@@ -331,7 +331,8 @@ ARIN_MUST_USE struct arin_verdict arin_answer(struct arin_words list, uint32_t w
 /* ---- Messages: the header and the words as bytes, of each number the low byte first ---- */
 
 /*
- * The message that these bytes are, all of them. The word of a Request is not judged: arin_answer and arin_request do that.
+ * The message that these bytes are, all of them. The word of a Request is not judged: arin_answer and arin_request do that. The type
+ * alone tells the message: a control message, whose count is 0, gets 10 where its type is 1 and 53 where it is 2.
  * Refusals: 40, 42, 41, 53; then for a Source_Capabilities those of arin_shape, with their places.
  */
 ARIN_MUST_USE struct arin_message_reading arin_read_message(const uint8_t *bytes, size_t length);

@@ -860,7 +860,7 @@ static void refused_by_header(void)
             if (type == ARIN_REQUEST && count != 1)
                 CHECK(reads_none(laid(m), ARIN_REQUEST_COUNT) && writes_none(m, ROOM, ARIN_REQUEST_COUNT, 0));
             else if (type != ARIN_REQUEST && type != ARIN_SOURCE_CAPABILITIES)
-                CHECK(reads_none(laid(m), ARIN_MESSAGE_TYPE) && writes_none(m, ROOM, ARIN_MESSAGE_TYPE, 0));
+                CHECK(reads_none(laid(m), ARIN_TYPE_NOT_HANDLED) && writes_none(m, ROOM, ARIN_TYPE_NOT_HANDLED, 0));
             else if (count != 0)
                 CHECK(reads_message(m) && writes_message(m, ROOM));
             m.header.extended = 1;

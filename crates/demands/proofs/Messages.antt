@@ -1,8 +1,8 @@
 -- Proves the claims of specs/Messages.antt, by the laws of `messages`.
 -- Assumes nothing.
-use mathlib.Core.Path.{_≡_, ap, ap₂, sym, _∙_}
+use mathlib.Core.Path.{_≡_, ap, ap₂, sym, subst, _∙_}
 use mathlib.Core.List.{List, _++_}
-use Prim.Native.Nat.{ℕ}
+use Prim.Native.Nat.{ℕ, _≤_}
 use lib.ListN.{length, take, drop}
 use lib.Seq.{ext-getD}
 use Rattle.verdicts.specs.Refusals.{success}
@@ -13,10 +13,10 @@ use Rattle.messages.specs.Reading.{messageIn, takenOf, messageReadOf}
 use Rattle.messages.specs.Writing.{bytesOf, writtenOf, bufferAfter}
 use Rattle.messages.specs.Kept.{Bytes8}
 use Rattle.messages.specs.Promises.{WritesMessage}
-use Rattle.messages.proofs.Accepted.{Writable, writable, writes, lays, front, taken-again, read-again, Takeable, takeable, readable, takes, reads, writable-again, laid-again, rest-stays}
+use Rattle.messages.proofs.Accepted.{Writable, writable, writes, lays, front, taken-again, read-again, Takeable, takeable, readable, takes, reads, writable-again, laid-again, rest-stays, never-too-short, at-most-30}
 use Rattle.messages.proofs.Unread.{written-unread, buffer-unread}
-use Rattle.demands.specs.Messages.{WriteThenReadMessage, WriteThenTakeMessage, ReadThenWriteMessage, TakeThenWriteMessage, WriteKeepsTheRest, SameBytes, ReadLooksAtTheBytes, TakeLooksAtTheBytes, WriteMessageDoesNotLook}
-use Rattle.demands.specs.Messages.{ArinWriteThenReadMessage, ArinWriteThenTakeMessage, ArinReadThenWriteMessage, ArinTakeThenWriteMessage, ArinWriteKeepsTheRest, ArinReadLooksAtTheBytes, ArinTakeLooksAtTheBytes, ArinWriteMessageDoesNotLook}
+use Rattle.demands.specs.Messages.{WriteThenReadMessage, WriteThenTakeMessage, ReadThenWriteMessage, TakeThenWriteMessage, WriteKeepsTheRest, WriteFitsIn30, SameBytes, ReadLooksAtTheBytes, TakeLooksAtTheBytes, WriteMessageDoesNotLook}
+use Rattle.demands.specs.Messages.{ArinWriteThenReadMessage, ArinWriteThenTakeMessage, ArinReadThenWriteMessage, ArinTakeThenWriteMessage, ArinWriteKeepsTheRest, ArinWriteFitsIn30, ArinReadLooksAtTheBytes, ArinTakeLooksAtTheBytes, ArinWriteMessageDoesNotLook}
 
 -- ---- what was written
 
@@ -79,6 +79,12 @@ write-keeps-the-rest bs m r cs e =
       ap₂ (λ (k : ℕ) (l : List ℕ). drop k l) n (e .1) ∙ rest .1 ∙ ap (λ (k : ℕ). drop k bs) (sym n),
     )
 
+pub write-fits-in-30 : WriteFitsIn30
+write-fits-in-30 bs m r cs e = (
+  subst (λ (x : Written). x .length ≤ 30) (sym (e .0)) (at-most-30 (length bs) m),
+  λ h z. never-too-short (length bs) m h (sym (ap (λ (x : Written). x .verdict .number) (e .0)) ∙ z),
+)
+
 same-bytes : (bs cs : List ℕ) → SameBytes bs cs → bs ≡ cs
 same-bytes bs cs s = ext-getD 0 bs cs (s .number) (s .each)
 
@@ -108,6 +114,9 @@ arin-take-then-write-message = take-then-write-message
 
 pub arin-write-keeps-the-rest : ArinWriteKeepsTheRest
 arin-write-keeps-the-rest = write-keeps-the-rest
+
+pub arin-write-fits-in-30 : ArinWriteFitsIn30
+arin-write-fits-in-30 = write-fits-in-30
 
 pub arin-read-looks-at-the-bytes : ArinReadLooksAtTheBytes
 arin-read-looks-at-the-bytes = read-looks-at-the-bytes

@@ -84,9 +84,24 @@ WriteKeepsTheRest = KeepsTheRest WritesMessage
 abbrev pub ArinWriteKeepsTheRest : Type 0
 ArinWriteKeepsTheRest = KeepsTheRest ArinWritesMessage
 
+-- ---- "Its length in bytes is 2 plus 4 times its count: 2 to 30."
+
+-- no message is longer than 30 bytes, and a buffer of 30 is never too short
+abbrev pub FitsIn30 : Writer → Type 0
+FitsIn30 writes =
+    (bs : List ℕ) (m : Message) (r : Written) (cs : List ℕ) → writes bs m r cs
+    → (r .length ≤ 30) × (30 ≤ length bs → r .verdict .number ≡ 52 → ⊥)
+
+abbrev pub WriteFitsIn30 : Type 0
+WriteFitsIn30 = FitsIn30 WritesMessage
+
+abbrev pub ArinWriteFitsIn30 : Type 0
+ArinWriteFitsIn30 = FitsIn30 ArinWritesMessage
+
 -- ---- "The answer of reading and of taking apart depends on nothing but the bytes that are lent"
 
--- as many bytes, and the same one at each place
+-- a contract speaks of the lent bytes and of nothing else; said byte by byte, this is what `Settled` says (OneOutcome). As many bytes, and the
+-- same one at each place:
 pub record SameBytes (bs cs : List ℕ) : Type 0 where
   pub number : length bs ≡ length cs
   pub each : (k : ℕ) → k < length bs → getD bs k 0 ≡ getD cs k 0

@@ -21,6 +21,7 @@ pub use object_fields::take_objects;
 pub use printing::flush;
 pub use printing::put;
 pub use printing::put_field;
+pub use printing::put_hex_byte;
 pub use printing::put_listing;
 pub use printing::put_text;
 pub use printing::put_unreadable;

@@ -1,5 +1,6 @@
 // What is told. Bytes wait in a buffer until it is full, or until the console has to wait for input.
 ghost use Prim.Native.Nat.{_+_, _≤_};
+use crate::text::HEX_DIGITS;
 use crate::text::put_byte;
 use crate::text::put_decimal;
 use crate::text::put_places;
@@ -49,6 +50,12 @@ pub fn put_text(out: &mut [u8; 4096], end: usize, text: &[u8]) -> usize {
 pub fn put_number(out: &mut [u8; 4096], end: usize, n: u16) -> usize {
     let at = place_for(&*out, end, 5);
     put_decimal(&mut *out, at, n)
+}
+
+pub fn put_hex_byte(out: &mut [u8; 4096], end: usize, byte: u8) -> usize {
+    let digits = HEX_DIGITS;
+    let high = put(out, end, digits[(byte / 16) as usize]);
+    put(out, high, digits[(byte % 16) as usize])
 }
 
 // A number that is not the first of its line.

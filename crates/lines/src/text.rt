@@ -5,7 +5,7 @@ ghost use Prim.Native.Nat.{_+_, _≤_, _<_, min};
 ghost use lib.ListN.{length};
 ghost use Rattle.lines.specs.Text.{Appended, PutWhereRoom, digitFrom, decimal, hexWord, placesText, lineOf};
 
-const HEX_DIGITS: [u8; 16] = [
+pub(crate) const HEX_DIGITS: [u8; 16] = [
     b'0',
     b'1',
     b'2',

@@ -1,4 +1,5 @@
 // Each line function is handed where the word that names the call ended.
+use crate::fields::MOST_BYTES;
 use crate::fields::take_bytes;
 use crate::fields::take_header;
 use crate::telling::put_buffer;
@@ -51,7 +52,7 @@ pub fn write_message_line(line: &[u8], at: usize, out: &mut [u8; 4096], end: usi
     if seven.next != line.len() {
         return put_unreadable(out, end);
     }
-    if 40 < room.value {
+    if MOST_BYTES < (room.value as usize) {
         return put_unreadable(out, end);
     }
     let header = fields.header;

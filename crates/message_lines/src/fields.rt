@@ -11,13 +11,13 @@ use messages::Header;
 // The most bytes that a line can have, typed or lent.
 pub(crate) const MOST_BYTES: usize = 40;
 
-pub struct ByteFields {
+pub(crate) struct ByteFields {
     pub bytes: [u8; 40],
     pub count: usize,
     pub next: usize,
 }
 
-pub struct HeaderFields {
+pub(crate) struct HeaderFields {
     pub header: Header,
     pub next: usize,
 }

@@ -1,6 +1,7 @@
 // What is told of a message and of a buffer.
 use lines::put;
 use lines::put_field;
+use lines::put_hex_byte;
 use lines::put_verdict;
 use lines::put_words;
 use messages::Header;
@@ -27,16 +28,6 @@ pub(crate) fn put_message(out: &mut [u8; 4096], end: usize, reading: MessageRead
     put_words(out, at, words, header.count)
 }
 
-fn hex_digit(value: u8) -> u8 {
-    if value < 10 {
-        return b'0' + value;
-    }
-    if value < 16 {
-        return b'A' + (value - 10);
-    }
-    b'?'
-}
-
 // Two digits for each byte, or `-` where there is none.
 pub(crate) fn put_buffer(out: &mut [u8; 4096], end: usize, buffer: &[u8]) -> usize {
     let mut at = put(out, end, b' ');
@@ -45,9 +36,7 @@ pub(crate) fn put_buffer(out: &mut [u8; 4096], end: usize, buffer: &[u8]) -> usi
     }
     let mut i = 0;
     while i < buffer.len() {
-        let byte = buffer[i];
-        let high = put(out, at, hex_digit(byte / 16));
-        at = put(out, high, hex_digit(byte % 16));
+        at = put_hex_byte(out, at, buffer[i]);
         i += 1;
     }
     at

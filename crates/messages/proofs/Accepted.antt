@@ -1,8 +1,8 @@
 -- What a success says of a message, and what then comes back.
 -- Assumes nothing.
 use mathlib.Core.Path.{_≡_, refl, ap, ap₂, sym, subst, _∙_}
-use mathlib.Core.Bool.{Bool, true, false, not}
-use mathlib.Core.List.{List, _∷_, _++_}
+use mathlib.Core.Bool.{cond, true≢false, Bool, true, false, not}
+use mathlib.Core.List.{List, [], _∷_, _++_}
 use Prim.Native.Nat.{ℕ, _+_, _≤_}
 use native.Mathlib.Omega.{arith}
 use lib.Dec.{ltb, eqb}
@@ -12,21 +12,24 @@ use borrow.Author.Tests.{ltb-false, eqb-true, eqb-false, not-false}
 use Rattle.verdicts.specs.declared.Verdict.{Verdict}
 use Rattle.verdicts.specs.Refusals.{Refusal, refusal, verdict, success, verdictOf, NoneApply}
 use Rattle.verdicts.proofs.Bools.{either-false}
-use Rattle.verdicts.proofs.First.{none-applied, none-left, none-right, all-missed, refused-so, passes, said-first}
+use Rattle.verdicts.proofs.First.{allPass, pass-append, pass-places, number-passes, none-applied, none-left, none-right, all-missed, refused-so, passes, said-first}
 use Rattle.objects.specs.Layout.{allFit}
+use Rattle.lists.specs.declared.Words.{Words}
+use Rattle.lists.specs.Shape.{wordRows, avsRows, shapeRefusals}
 use Rattle.lists.proofs.Sevens.{filled-at}
+use Rattle.lists.proofs.Shapes.{wordsPart, avsPart}
 use Rattle.messages.specs.declared.Header.{Header}
 use Rattle.messages.specs.declared.Message.{Message}
 use Rattle.messages.specs.declared.MessageReading.{MessageReading}
 use Rattle.messages.specs.declared.Written.{Written}
 use Rattle.messages.specs.Headers.{fieldsOf, lengthOf}
-use Rattle.messages.specs.Refusing.{headerRefusals, listRefusals}
+use Rattle.messages.specs.Refusing.{isSourceCapabilities, headerRefusals, listIn, listRefusals}
 use Rattle.messages.specs.Reading.{headerIn, messageIn, takingRefusals, readingRefusals, readAs, takenOf, messageReadOf}
 use Rattle.messages.specs.Writing.{bytesOf, writingRefusals, writingRefused, laidOver, writtenOf, bufferAfter}
 use Rattle.messages.specs.Kept.{keptMessage, Bytes8, MessageWords32, AgreeMessages}
 use Rattle.messages.proofs.HeaderFields.{taken-fit, fit-count}
 use Rattle.messages.proofs.Readings.{taking-numbered, reading-numbered, taken-verdict, read-verdict, taken-apart, read-whole}
-use Rattle.messages.proofs.Writings.{writing-numbered, written}
+use Rattle.messages.proofs.Writings.{writing-numbered, wide, header-refused, misshapen, written}
 use Rattle.messages.proofs.RoundTrips.{header-back, message-back, bytes-length, bytes-back}
 use Rattle.messages.proofs.Unread.{list-unread}
 
@@ -187,3 +190,69 @@ module _ (bs : List ℕ) (m : Message) where
         let same = refused-so (λ n p. bs) rows f (laidOver bs m) in
         let none = refused-so writingRefused rows f (record { verdict = success; length = lengthOf (m .header) }) in
         rw (none, same) (refl, refl)
+
+-- ---- no message is longer than 30 bytes
+
+abbrev not52 : ℕ → Bool
+not52 n = not (eqb n 52)
+
+says-52 : (n : ℕ) → not52 n ≡ true → n ≡ 52 → ⊥
+says-52 n t e = true≢false (sym t ∙ ap not52 e)
+
+-- no row of a list has the number 52
+list-passes : (m : Message) → allPass not52 (listRefusals m) ≡ true
+list-passes m = go (isSourceCapabilities (m .header)) where
+  l : Words
+  l = listIn m
+
+  go : (b : Bool) → allPass not52 (cond b (shapeRefusals (listIn m)) []) ≡ true
+  go true =
+      pass-append not52 (wordsPart l) (avsPart l) (pass-places not52 (wordRows (l .words)) (λ k. refl) (l .count))
+      (pass-places not52 (avsRows (l .words) (l .count)) (λ k. refl) (l .count))
+  go false = refl
+
+module _ (room : ℕ) (m : Message) (h : 30 ≤ room) where
+  abbrev rows : List Refusal
+  rows = writingRefusals room m
+
+  -- a buffer of 30 has room: what comes before 52 decides, or what comes after it
+  no-room-needed : numberOf rows ≡ 52 → ⊥
+  no-room-needed = fields (not (allFit (fieldsOf (m .header)))) refl where
+    said : {n p : ℕ} → verdictOf rows ≡ verdict n p → numberOf rows ≡ 52 → n ≡ 52
+    said e z = sym (ap (λ (v : Verdict). v .number) e) ∙ z
+
+    list : (fit : not (allFit (fieldsOf (m .header))) ≡ false) → numberOf (headerRefusals (m .header)) ≡ 0 → (b : Bool)
+        → eqb (numberOf (listRefusals m)) 0 ≡ b → numberOf rows ≡ 52 → ⊥
+    list fit y true q z =
+        let room-enough : lengthOf (m .header) ≤ room = omega (arith, fit-count (m .header) (not-false _ fit)) in
+        absurd (omega (arith, said (written verdict success room m fit y room-enough (eqb-true _ 0 q)) z))
+    list fit y false q z =
+        let room-enough : lengthOf (m .header) ≤ room = omega (arith, fit-count (m .header) (not-false _ fit)) in
+        let f = eqb-false (numberOf (listRefusals m)) 0 q in
+        says-52 _ (number-passes not52 (listRefusals m) (list-passes m) f) (said (misshapen verdict success room m fit y room-enough f) z)
+
+    header : (fit : not (allFit (fieldsOf (m .header))) ≡ false) → (b : Bool) → eqb (numberOf (headerRefusals (m .header))) 0 ≡ b → numberOf rows ≡ 52 → ⊥
+    header fit true q z = list fit (eqb-true _ 0 q) (eqb (numberOf (listRefusals m)) 0) refl z
+    header fit false q z =
+        let f = eqb-false (numberOf (headerRefusals (m .header))) 0 q in
+        says-52 _ (number-passes not52 (headerRefusals (m .header)) refl f) (said (header-refused verdict success room m fit f) z)
+
+    fields : (b : Bool) → not (allFit (fieldsOf (m .header))) ≡ b → numberOf rows ≡ 52 → ⊥
+    fields true q z = absurd (omega (arith, said (wide verdict success room m q) z))
+    fields false q z = header q (eqb (numberOf (headerRefusals (m .header))) 0) refl z
+
+  pub never-too-short : writtenOf room m .verdict .number ≡ 52 → ⊥
+  never-too-short e = no-room-needed (sym (ap (λ (v : Verdict). v .number) (written-verdict room m)) ∙ e)
+
+-- what is answered is a length that fits, or 0
+pub at-most-30 : (room : ℕ) (m : Message) → writtenOf room m .length ≤ 30
+unfolding writtenOf
+at-most-30 room m = go (eqb (numberOf (writingRefusals room m)) 0) refl where
+  good : Written
+  good = record { verdict = success; length = lengthOf (m .header) }
+
+  go : (b : Bool) → eqb (numberOf (writingRefusals room m)) 0 ≡ b → writtenOf room m .length ≤ 30
+  go true q =
+      let w = writable room m (written-verdict room m ∙ passes (writingRefusals room m) (writing-numbered room m) (eqb-true _ 0 q)) in
+      rw (writes room m w) (omega (arith, fit-count (m .header) (w .fit)))
+  go false q = rw (refused-so writingRefused (writingRefusals room m) (eqb-false _ 0 q) good) (omega arith)

@@ -31,6 +31,6 @@ fieldsOf h =
     ∷ field (h .extended) 15 15
     ∷ []
 
--- "Its length is 2 and 4 times its count, in bytes"
+-- "Its length in bytes is 2 plus 4 times its count"
 abbrev pub lengthOf : Header → ℕ
 lengthOf h = 2 + 4 * h .count

@@ -1,16 +1,9 @@
-// The header: its seven fields at their bit places, and what is refused by it alone.
+// The header: its seven fields at their bit places, out of 16 bits and into them.
 ghost use mathlib.Core.Path.{_≡_};
 ghost use mathlib.Core.Bool.{true, not};
-ghost use Rattle.verdicts.specs.Refusals.{verdict, verdictOf};
 ghost use Rattle.objects.specs.Layout.{allFit, joined};
 ghost use Rattle.messages.specs.Headers.{headerOf, fieldsOf};
-ghost use Rattle.messages.specs.Refusing.{headerRefusals, listRefusals};
 use crate::Header;
-use crate::Message;
-use crate::REQUEST;
-use crate::SOURCE_CAPABILITIES;
-use lists::Words;
-use verdicts::Verdict;
 
 pub(crate) fn header_of(half: u32) -> Header
     ensures { λ r. ⌜ r ≡ headerOf half ⌝ }
@@ -63,44 +56,4 @@ pub(crate) fn half_of_header(header: Header) -> u32
         | ((header.id as u32) << 9)
         | ((header.count as u32) << 12)
         | ((header.extended as u32) << 15)
-}
-
-fn placeless(number: u8) -> Verdict
-    ensures { λ r. ⌜ r ≡ verdict number 0 ⌝ }
-{
-    Verdict { number, place: 0 }
-}
-
-// 42, 41, 53, whether the message is read or written.
-pub(crate) fn judge_header(header: Header) -> Verdict
-    ensures { λ r. ⌜ r ≡ verdictOf (headerRefusals header) ⌝ }
-{
-    if header.extended != 0 {
-        return placeless(verdicts::EXTENDED_MESSAGE);
-    }
-    if header.message_type == SOURCE_CAPABILITIES {
-        return placeless(verdicts::SUCCESS);
-    }
-    if header.message_type != REQUEST {
-        return placeless(verdicts::MESSAGE_TYPE);
-    }
-    if header.count != 1 {
-        return placeless(verdicts::REQUEST_COUNT);
-    }
-    placeless(verdicts::SUCCESS)
-}
-
-// The words of a Source_Capabilities are a list. A Request has none to be judged on.
-pub(crate) fn judge_list(message: Message) -> Verdict
-    ensures { λ r. ⌜ r ≡ verdictOf (listRefusals message) ⌝ }
-{
-    let header = message.header;
-    if header.message_type != SOURCE_CAPABILITIES {
-        return placeless(verdicts::SUCCESS);
-    }
-    let words = message.words;
-    lists::shape(Words {
-        words,
-        count: header.count,
-    })
 }

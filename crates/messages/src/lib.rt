@@ -1,6 +1,7 @@
 // Whole messages (docs/STATEMENT.md, "Messages"): the header and the words of a Source_Capabilities or a Request, read from bytes and
 // written into them.
 mod headers;
+mod judging;
 mod low_first;
 mod reading;
 mod writing;

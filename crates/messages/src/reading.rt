@@ -10,8 +10,8 @@ use crate::Message;
 use crate::MessageReading;
 use crate::NO_MESSAGE;
 use crate::headers::header_of;
-use crate::headers::judge_header;
-use crate::headers::judge_list;
+use crate::judging::judge_header;
+use crate::judging::judge_list;
 use crate::low_first::half_of;
 use crate::low_first::word_of;
 use verdicts::Verdict;
@@ -25,7 +25,8 @@ fn refuse(number: u8, place: u8) -> MessageReading
     }
 }
 
-// The header, and the words behind it, where they will stand.
+// The header and the words behind it. Each word is put down where it will stand: an array of their own would be copied once more, which
+// small boards feel.
 fn message_in(bytes: &[u8], header: Header) -> Message
     requires { ⌜ (header .count ≤ 7) × (length (now bytes) ≡ lengthOf header) ⌝ }
     ensures { λ r. ⌜ r ≡ record { header = header; words = wordsIn (now (bytes .entry)) (header .count) } ⌝ }

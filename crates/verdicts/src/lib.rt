@@ -112,7 +112,7 @@ pub const ROWS_NOT_SOUND: u8 = 37;
 pub const MESSAGE_LENGTH: u8 = 40;
 
 // A message: its type is neither Source_Capabilities nor Request.
-pub const MESSAGE_TYPE: u8 = 41;
+pub const TYPE_NOT_HANDLED: u8 = 41;
 
 // A message: it is an extended one.
 pub const EXTENDED_MESSAGE: u8 = 42;

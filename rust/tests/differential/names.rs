@@ -60,7 +60,7 @@ fn names_have_the_numbers_of_the_statement() {
         [30, 31, 32, 33, 34, 35, 36, 37]
     );
     assert_eq!(
-        [MESSAGE_LENGTH, MESSAGE_TYPE, EXTENDED_MESSAGE],
+        [MESSAGE_LENGTH, TYPE_NOT_HANDLED, EXTENDED_MESSAGE],
         [40, 41, 42]
     );
     assert_eq!(

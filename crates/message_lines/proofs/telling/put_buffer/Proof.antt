@@ -24,20 +24,11 @@ returns c = search needs
 loop-holds : tie.Need-loop-holds Inv-loop μ-loop
 loop-holds c = search needs
 
-shared-slice-read-byte : tie.Need-shared-slice-read-byte Inv-loop μ-loop
-shared-slice-read-byte c = search needs
+shared-slice-read-put-hex-byte : tie.Need-shared-slice-read-put-hex-byte Inv-loop μ-loop
+shared-slice-read-put-hex-byte c = search needs
 
-hex-digit-requires : tie.Need-hex-digit-requires Inv-loop μ-loop
-hex-digit-requires c κs = search needs
-
-put-requires-3 : tie.Need-put-requires-3 Inv-loop μ-loop
-put-requires-3 c κs = search needs
-
-hex-digit-requires-2 : tie.Need-hex-digit-requires-2 Inv-loop μ-loop
-hex-digit-requires-2 c κs = search needs
-
-put-requires-4 : tie.Need-put-requires-4 Inv-loop μ-loop
-put-requires-4 c κs = search needs
+put-hex-byte-requires : tie.Need-put-hex-byte-requires Inv-loop μ-loop
+put-hex-byte-requires c κs = search needs
 
 add-i : tie.Need-add-i Inv-loop μ-loop
 add-i c = search needs
@@ -61,11 +52,8 @@ put-buffer-spec =
     put-requires-2
     returns
     loop-holds
-    shared-slice-read-byte
-    hex-digit-requires
-    put-requires-3
-    hex-digit-requires-2
-    put-requires-4
+    shared-slice-read-put-hex-byte
+    put-hex-byte-requires
     add-i
     loop-less
     loop-again

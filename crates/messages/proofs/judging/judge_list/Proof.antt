@@ -1,4 +1,4 @@
--- `messages::headers::judge_list` meets its contract: the shape check's, or that there is no list.
+-- `messages::judging::judge_list` meets its contract: the shape check's, or that there is no list.
 -- Assumes nothing.
 use borrow.Author.Needs.{needs}
 use mathlib.Core.Path.{ap, sym, _∙_}
@@ -7,8 +7,8 @@ use Rattle.verdicts.specs.Refusals.{Refusal, firstOf, verdictOf}
 use Rattle.lists.proofs.Shapes.{shape-verdict}
 use Rattle.messages.specs.Refusing.{listIn}
 use Rattle.messages.proofs.Refusals.{no-list, a-list}
-use Rattle.messages.proofs.headers.judge_list.Statement.{statement}
-use Rattle.messages.proofs.headers.judge_list.Tie as tie
+use Rattle.messages.proofs.judging.judge_list.Statement.{statement}
+use Rattle.messages.proofs.judging.judge_list.Tie as tie
 
 placeless-requires : tie.Need-placeless-requires
 placeless-requires c κs = search needs

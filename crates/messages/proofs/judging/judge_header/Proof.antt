@@ -1,10 +1,10 @@
--- `messages::headers::judge_header` meets its contract: each return is a row of the table, or that none applies.
+-- `messages::judging::judge_header` meets its contract: each return is a row of the table, or that none applies.
 -- Assumes nothing.
 use borrow.Author.Needs.{needs}
 use mathlib.Core.Path.{sym, _∙_}
 use Rattle.messages.proofs.Refusals.{extended-refused, list-passes, request-passes, request-miscounted, other-refused}
-use Rattle.messages.proofs.headers.judge_header.Statement.{statement}
-use Rattle.messages.proofs.headers.judge_header.Tie as tie
+use Rattle.messages.proofs.judging.judge_header.Statement.{statement}
+use Rattle.messages.proofs.judging.judge_header.Tie as tie
 
 placeless-requires : tie.Need-placeless-requires
 placeless-requires c κs = search needs
