@@ -1,15 +1,15 @@
 // The calls that take a profile or a list and leave the port rows alone.
 use lines::put_field;
 use lines::put_listing;
-use lines::put_objects;
 use lines::put_unreadable;
 use lines::put_verdict;
 use lines::take_number;
-use lines::take_objects;
 use lines::take_seven_words;
 use lines::take_small_number;
 use lines::take_word;
 use lists::Words;
+use object_lines::put_objects;
+use object_lines::take_objects;
 use rules::Profile;
 use steps::HalfWatts;
 

@@ -1,6 +1,5 @@
 // What both programs print with, and the lines of the console: the fields that are typed, and the answers that are told.
 mod fields;
-mod object_fields;
 mod printing;
 mod text;
 
@@ -15,9 +14,6 @@ pub use fields::take_number;
 pub use fields::take_seven_words;
 pub use fields::take_small_number;
 pub use fields::take_word;
-pub use object_fields::ObjectFields;
-pub use object_fields::put_objects;
-pub use object_fields::take_objects;
 pub use printing::flush;
 pub use printing::put;
 pub use printing::put_field;

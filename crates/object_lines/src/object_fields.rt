@@ -1,10 +1,10 @@
 // Objects as they are typed and told: a letter for the kind, then its figures in the object's own steps.
-use crate::fields::UNREADABLE;
-use crate::fields::past_space;
-use crate::fields::take_number;
-use crate::fields::take_small_number;
-use crate::printing::put;
-use crate::printing::put_field;
+use lines::UNREADABLE;
+use lines::past_space;
+use lines::put;
+use lines::put_field;
+use lines::take_number;
+use lines::take_small_number;
 use lists::EMPTY_PLACE;
 use lists::Objects;
 use lists::Place;
