@@ -15,6 +15,7 @@ use Rattle.verdicts.proofs.Bools.{either-false}
 use Rattle.verdicts.proofs.First.{allPass, pass-append, pass-places, number-passes, none-applied, none-left, none-right, all-missed, refused-so, passes, said-first}
 use Rattle.objects.specs.Layout.{allFit}
 use Rattle.lists.specs.declared.Words.{Words}
+use Rattle.lists.specs.Kept.{Words32}
 use Rattle.lists.specs.Shape.{wordRows, avsRows, shapeRefusals}
 use Rattle.lists.proofs.Sevens.{filled-at}
 use Rattle.lists.proofs.Shapes.{wordsPart, avsPart}
@@ -26,7 +27,7 @@ use Rattle.messages.specs.Headers.{fieldsOf, lengthOf}
 use Rattle.messages.specs.Refusing.{isSourceCapabilities, headerRefusals, listIn, listRefusals}
 use Rattle.messages.specs.Reading.{headerIn, messageIn, takingRefusals, readingRefusals, readAs, takenOf, messageReadOf}
 use Rattle.messages.specs.Writing.{bytesOf, writingRefusals, writingRefused, laidOver, writtenOf, bufferAfter}
-use Rattle.messages.specs.Kept.{keptMessage, Bytes8, MessageWords32, AgreeMessages}
+use Rattle.messages.specs.Kept.{keptMessage, Bytes8, AgreeMessages}
 use Rattle.messages.proofs.HeaderFields.{taken-fit, fit-count}
 use Rattle.messages.proofs.Readings.{taking-numbered, reading-numbered, taken-verdict, read-verdict, taken-apart, read-whole}
 use Rattle.messages.proofs.Writings.{writing-numbered, wide, header-refused, misshapen, written}
@@ -79,7 +80,7 @@ module _ (bs : List ℕ) (m : Message) (w : Writable (length bs) m) where
   front = ap (take (lengthOf (m .header))) lays ∙ take-at (bytesOf m) (drop (lengthOf (m .header)) bs) (lengthOf (m .header)) (bytes-length m)
 
 -- its bytes are read again
-module _ (room : ℕ) (m : Message) (w : Writable room m) (fits : MessageWords32 m) where
+module _ (room : ℕ) (m : Message) (w : Writable room m) (fits : Words32 (listIn m)) where
   right-length : length (bytesOf m) ≡ lengthOf (headerIn (bytesOf m))
   right-length = bytes-length m ∙ sym (ap lengthOf (header-back m (w .fit)))
 

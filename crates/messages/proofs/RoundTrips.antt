@@ -8,19 +8,22 @@ use Prim.Native.Nat.{ℕ, zero, suc, _+_, _-_, _*_, _^_, _≤_, _<_}
 use native.Mathlib.Nat.{add-zero, eq-or-lt-of-le, le-of-suc-le-suc}
 use native.Mathlib.Omega.{arith}
 use lib.ListN.{length, take, drop, getD, length-take, length-drop, take-append-drop, List·getD-append}
-use lib.Seq.{getD-append-add, getD-take, getD-drop, drop-drop, take-add, take-all, ext-getD}
+use lib.Seq.{getD-append-add, getD-take, drop-drop, take-add, take-all, ext-getD}
 use Rattle.objects.specs.Layout.{allFit, joined}
 use Rattle.objects.proofs.Rows.{joined-lt}
+use Rattle.lists.specs.Kept.{Words32}
 use Rattle.lists.proofs.Sevens.{filled-at, same-seven}
 use Rattle.messages.specs.declared.Header.{Header}
 use Rattle.messages.specs.declared.Message.{Message}
 use Rattle.messages.specs.LowFirst.{twoBytes, fourBytes, twoFields, halfAt, wordAt}
 use Rattle.messages.specs.Headers.{headerOf, fieldsOf, lengthOf}
+use Rattle.messages.specs.Refusing.{listIn}
 use Rattle.messages.specs.Reading.{headerIn, wordsIn, messageIn}
 use Rattle.messages.specs.Writing.{wordBytes, bytesOf}
-use Rattle.messages.specs.Kept.{keptMessage, Bytes8, MessageWords32}
+use Rattle.messages.specs.Kept.{keptMessage, Bytes8}
 use Rattle.messages.proofs.LowFirst.{two-whole, four-whole, two-fit, two-parted, four-parted}
 use Rattle.messages.proofs.HeaderFields.{taken-whole, taken-count, made-again, made-lt}
+use Rattle.messages.proofs.Parts.{part-at}
 use Rattle.messages.proofs.Laying.{word-bytes-length, front-length}
 
 -- ---- what was written is read
@@ -63,7 +66,7 @@ module _ (m : Message) (fit : allFit (fieldsOf (m .header)) ≡ true) where
   pub header-back : headerIn (bytesOf m) ≡ m .header
   header-back = ap headerOf (two-whole (joined (fieldsOf (m .header))) (made-lt (m .header) fit)) ∙ made-again (m .header) fit
 
-  pub message-back : MessageWords32 m → messageIn (bytesOf m) ≡ keptMessage m
+  pub message-back : Words32 (listIn m) → messageIn (bytesOf m) ≡ keptMessage m
   message-back fits =
       let n = m .header .count in
       ap (λ (h : Header). record { header = h; words = wordsIn (bytesOf m) (h .count) }) header-back
@@ -77,10 +80,6 @@ bytes-length m = front-length [] (joined (fieldsOf (m .header))) (m .words) (m .
 -- ---- what was read is written
 
 module _ (bs : List ℕ) (small : Bytes8 bs) where
-  -- the byte at a place of a part
-  part-at : (at n k : ℕ) → k < n → getD (take n (drop at bs)) k 0 ≡ getD bs (at + k) 0
-  part-at at n k h = rw (getD-take, getD-drop)
-
   two-there : 2 ≤ length bs → twoBytes (halfAt bs 0) ≡ take 2 bs
   two-there h =
       two-parted (getD bs 0 0) (getD bs 1 0) (small .fits 0) (small .fits 1)
@@ -102,10 +101,10 @@ module _ (bs : List ℕ) (small : Bytes8 bs) where
         size = simp (length-take, length-drop) (omega arith)
 
         each : (i : ℕ) → i < 4 → getD (take 4 (drop at bs)) i 0 ≡ getD four i 0
-        each zero l = part-at at 4 0 l ∙ ap (λ (k : ℕ). getD bs k 0) (add-zero at)
-        each (suc zero) l = part-at at 4 1 l
-        each (suc (suc zero)) l = part-at at 4 2 l
-        each (suc (suc (suc zero))) l = part-at at 4 3 l
+        each zero l = part-at bs at 4 0 l ∙ ap (λ (k : ℕ). getD bs k 0) (add-zero at)
+        each (suc zero) l = part-at bs at 4 1 l
+        each (suc (suc zero)) l = part-at bs at 4 2 l
+        each (suc (suc (suc zero))) l = part-at bs at 4 3 l
         each (suc (suc (suc (suc i)))) l = absurd (omega arith)
 
   module _ (n : ℕ) (few : n ≤ 7) (long : 2 + 4 * n ≤ length bs) where

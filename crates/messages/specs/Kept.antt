@@ -1,5 +1,5 @@
--- A message as it is given back (STATEMENT, "Messages"): "the words past" the count "are zero", and what its types in the source say of
--- bytes and words; no contract cites these.
+-- A message as it is given back (STATEMENT, "Messages"): "the words past" the count "are zero", and what the type in the source says of
+-- bytes; no contract cites these. That words have 32 bits is `Words32` (lists, Kept).
 -- Assumes nothing.
 use mathlib.Core.Path.{_≡_}
 use mathlib.Core.List.{List}
@@ -15,10 +15,6 @@ keptMessage m =
 -- each byte has 8 bits
 pub record Bytes8 (bs : List ℕ) : Type 0 where
   pub fits : (k : ℕ) → getD bs k 0 < 2 ^ 8
-
--- each word has 32 bits
-pub record MessageWords32 (m : Message) : Type 0 where
-  pub fits : (k : ℕ) → getD (m .words) k 0 < 2 ^ 32
 
 -- the same header, and the same words up to its count
 pub record AgreeMessages (m n : Message) : Type 0 where
