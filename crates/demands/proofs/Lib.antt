@@ -8,6 +8,7 @@ pub mod ManyRows
 pub mod Withdrawn
 pub mod NoKindOrder
 pub mod NoKindCases
+pub mod Rounding
 pub mod KindsAgree
 pub mod RoundTrips
 pub mod FlatRoundTrips

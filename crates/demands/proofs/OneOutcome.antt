@@ -10,7 +10,7 @@ use Rattle.steps.specs.declared.Mv50.{Mv50}
 use Rattle.steps.specs.declared.Mv100.{Mv100}
 use Rattle.steps.specs.declared.Ma10.{Ma10}
 use Rattle.objects.specs.declared.Object.{Object}
-use Rattle.demands.specs.CallContracts.{RoundDownAnswers, RoundUpAnswers}
+use Rattle.demands.specs.CallContracts.{RoundDownAnswers, RoundUpAnswers, RoundBothAnswers}
 use Rattle.demands.specs.CallContracts.{Mv20ToMv25Answers, Mv20ToMv50Answers, Mv20ToMv100Answers, Mv25ToMv20Answers, Mv25ToMv50Answers, Mv25ToMv100Answers, Mv50ToMv20Answers, Mv50ToMv25Answers, Mv50ToMv100Answers, Mv100ToMv20Answers, Mv100ToMv25Answers, Mv100ToMv50Answers, Ma10ToMa50Answers, Ma50ToMa10Answers}
 use Rattle.demands.specs.CallContracts.{IsKindAnswers, DecodeAnswers, ReservedAnswers, EncodeAnswers, FixedWordAnswers, PpsWordAnswers, AvsWordAnswers}
 use Rattle.demands.specs.CallContracts.{ShapeAnswers, ReadAnswers, RefuseAnswers, WriteAnswers}
@@ -40,6 +40,9 @@ round-down-settles numerator divisor r s e f = only e f
 
 pub round-up-settles : (numerator : ℕ) → Settled (RoundUpAnswers numerator)
 round-up-settles numerator divisor r s e f = only e f
+
+pub round-both-settles : (numerator : ℕ) → Settled (RoundBothAnswers numerator)
+round-both-settles numerator divisor r s e f = only e f
 
 pub mv20-to-mv25-settles : Settled Mv20ToMv25Answers
 mv20-to-mv25-settles v r s e f = mv25-one r s (only e f)
@@ -215,6 +218,7 @@ pub no-second-outcome : NoSecondOutcome
 no-second-outcome = record {
   round-down = round-down-settles;
   round-up = round-up-settles;
+  round-both = round-both-settles;
   mv20-to-mv25 = mv20-to-mv25-settles;
   mv20-to-mv50 = mv20-to-mv50-settles;
   mv20-to-mv100 = mv20-to-mv100-settles;

@@ -21,6 +21,8 @@ use Rattle.steps.specs.declared.Ma50.{Ma50}
 use Rattle.steps.specs.declared.InMa50.{InMa50}
 use Rattle.steps.proofs.round_down.Reads as round-down
 use Rattle.steps.proofs.round_up.Reads as round-up
+use Rattle.steps.specs.declared.Roundings.{Roundings}
+use Rattle.steps.proofs.round_both.Reads as round-both
 use Rattle.steps.proofs.Mv20.to_mv25.Reads as mv20-to-mv25
 use Rattle.steps.proofs.Mv20.to_mv50.Reads as mv20-to-mv50
 use Rattle.steps.proofs.Mv20.to_mv100.Reads as mv20-to-mv100
@@ -91,6 +93,9 @@ RoundDownAnswers numerator divisor r = round-down.Post tt (numerator, (divisor, 
 
 abbrev pub RoundUpAnswers : ℕ → ℕ → ℕ → Type 0
 RoundUpAnswers numerator divisor r = round-up.Post tt (numerator, (divisor, tt)) r (numerator, (divisor, tt))
+
+abbrev pub RoundBothAnswers : ℕ → ℕ → Roundings → Type 0
+RoundBothAnswers numerator divisor r = round-both.Post tt (numerator, (divisor, tt)) r (numerator, (divisor, tt))
 
 abbrev pub Mv20ToMv25Answers : Mv20 → InMv25 → Type 0
 Mv20ToMv25Answers v r = mv20-to-mv25.Post tt (v, tt) r (v, tt)

@@ -16,6 +16,8 @@ pub mod ManyRows
 pub mod Withdrawn
 pub mod NoKindOrder
 pub mod NoKindCases
+-- Rounding both ways from one division (T-03)
+pub mod Rounding
 -- Demand 2, words, lists and rules: what is read writes back, what is built passes, and each limit is where the statement has it
 pub mod KindsAgree
 pub mod RoundTrips

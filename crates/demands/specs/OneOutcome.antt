@@ -19,7 +19,7 @@ use Rattle.rules.specs.declared.Profile.{Profile}
 use Rattle.ports.specs.declared.Row.{Row}
 use Rattle.ports.specs.declared.Standing.{Standing}
 use Rattle.board.specs.Promises.{SharesSetUp, SharesAttach, SharesAdvertise, SharesRequest, SharesDetach, SharesRemaining}
-use Rattle.demands.specs.CallContracts.{RoundDownAnswers, RoundUpAnswers}
+use Rattle.demands.specs.CallContracts.{RoundDownAnswers, RoundUpAnswers, RoundBothAnswers}
 use Rattle.demands.specs.CallContracts.{Mv20ToMv25Answers, Mv20ToMv50Answers, Mv20ToMv100Answers, Mv25ToMv20Answers, Mv25ToMv50Answers, Mv25ToMv100Answers, Mv50ToMv20Answers, Mv50ToMv25Answers, Mv50ToMv100Answers, Mv100ToMv20Answers, Mv100ToMv25Answers, Mv100ToMv50Answers, Ma10ToMa50Answers, Ma50ToMa10Answers}
 use Rattle.demands.specs.CallContracts.{IsKindAnswers, DecodeAnswers, ReservedAnswers, EncodeAnswers, FixedWordAnswers, PpsWordAnswers, AvsWordAnswers}
 use Rattle.demands.specs.CallContracts.{ShapeAnswers, ReadAnswers, RefuseAnswers, WriteAnswers}
@@ -40,6 +40,7 @@ pub record NoSecondOutcome : Type 0 where
   -- steps
   pub round-down : (numerator : ℕ) → Settled (RoundDownAnswers numerator)
   pub round-up : (numerator : ℕ) → Settled (RoundUpAnswers numerator)
+  pub round-both : (numerator : ℕ) → Settled (RoundBothAnswers numerator)
   pub mv20-to-mv25 : Settled Mv20ToMv25Answers
   pub mv20-to-mv50 : Settled Mv20ToMv50Answers
   pub mv20-to-mv100 : Settled Mv20ToMv100Answers

@@ -1,14 +1,12 @@
 -- What rounding down and up give, over numerator and divisor: the greatest and the least, how the two differ, and that both rise.
 -- Assumes nothing.
 use mathlib.Core.Path.{_≡_, refl, sym, ap, _∙_, subst}
-use Prim.Native.Nat.{ℕ, zero, suc, _+_, _*_, _/_, _%_, _≤_, _<_}
+use Prim.Native.Nat.{ℕ, zero, suc, _+_, _*_, _-_, _/_, _≤_, _<_}
 use native.Mathlib.Nat.{
   le-div-iff-mul-le,
   div-lt-iff-lt-mul,
   div-mul-le-self,
   lt-div-mul-add,
-  div-add-mod',
-  mul-mod-left,
   add-mul,
   one-mul,
   le-trans,
@@ -93,23 +91,15 @@ up-exact q d n h e =
     let u : n * d ≤ upOf q d * d = rw e (up-over q d h) in
     le-antisymm (up-least q d n h (omega arith)) (le-of-mul-le-mul-right u h)
 
-divided : (q d : ℕ) → 0 < d → q % d ≡ 0 → downOf q d * d ≡ q
-divided q d h e = rw (down-is q d h) (omega (arith, div-add-mod' q d))
+-- "Both follow from one division": rounded down is its quotient (`down-is`), and rounded up goes by what is left of the numerator
+module _ (q d : ℕ) (pos : 0 < d) where
+  pub up-nothing-left : q - q / d * d ≡ 0 → upOf q d ≡ q / d
+  up-nothing-left none = up-exact q d (q / d) pos (omega (arith, div-mul-le-self q d))
 
-pub up-same : (q d : ℕ) → q % d ≡ 0 → upOf q d ≡ downOf q d
-up-same q zero e = up-none q 0 refl ∙ sym (down-none q 0 refl)
-up-same q (suc d) e =
-    let h : 0 < suc d = omega arith in
-    up-exact q (suc d) (downOf q (suc d)) h (divided q (suc d) h e)
-
-pub up-more : (q d : ℕ) → 0 < d → (q % d ≡ 0 → ⊥) → upOf q d ≡ downOf q d + 1
-up-more q d h ne =
-    let differ : upOf q d ≡ downOf q d → ⊥ =
-    λ e.
-    let over : q ≤ downOf q d * d = rw e at (up-over q d h) in
-    let whole : downOf q d * d ≡ q = omega (arith, down-under q d) in
-    ne (rw whole at (mul-mod-left (downOf q d) d)) in
-    omega (arith, down-le-up q d, up-le-next q d)
+  pub up-something-left : (q - q / d * d ≡ 0 → ⊥) → upOf q d ≡ q / d + 1
+  up-something-left some = omega (arith, more, up-le-next q d, down-is q d pos) where
+    more : upOf q d ≤ q / d → ⊥
+    more h = omega (arith, some, up-over q d pos, mul-le-mul-right d h)
 
 -- both rise with the numerator
 pub down-mono : (p q d : ℕ) → p ≤ q → downOf p d ≤ downOf q d
@@ -121,13 +111,6 @@ up-mono p q zero k = omega (arith, up-none p 0 refl)
 up-mono p q (suc d) k =
     let h : 0 < suc d = omega arith in
     up-least p (suc d) (upOf q (suc d)) h (le-trans k (up-over q (suc d) h))
-
--- a quotient is no more than its numerator
-pub up-le-self : (q d : ℕ) → upOf q d ≤ q
-up-le-self q zero = omega (arith, up-none q 0 refl)
-up-le-self q (suc d) =
-    let h : 0 < suc d = omega arith in
-    up-least q (suc d) q h (le-mul-of-pos-right q h)
 
 -- ---- numerator and divisor in a smaller step: the quotient is the same
 

@@ -1,8 +1,9 @@
 -- What each function promises of its result r (STATEMENT, "Steps of measure").
 use mathlib.Core.Path.{_≡_}
 use Prim.Native.Nat.{ℕ}
-use Rattle.steps.specs.Rounding.{downOf, upOf}
+use Rattle.steps.specs.Rounding.{downOf, upOf, bothOf}
 use Rattle.steps.specs.Measure.{convertedOf, scaledSays, mv20Says, mv25Says, mv50Says, mv100Says, ma10Says, ma50Says}
+use Rattle.steps.specs.declared.Roundings.{Roundings}
 use Rattle.steps.specs.declared.scaling.Scaled.{Scaled}
 use Rattle.steps.specs.declared.InMv20.{InMv20}
 use Rattle.steps.specs.declared.InMv25.{InMv25}
@@ -17,6 +18,9 @@ RoundedDown q d r = r ≡ downOf q d
 
 abbrev pub RoundedUp : ℕ → ℕ → ℕ → Type 0
 RoundedUp q d r = r ≡ upOf q d
+
+abbrev pub RoundedBoth : ℕ → ℕ → Roundings → Type 0
+RoundedBoth q d r = r ≡ bothOf q d
 
 -- "The conversion gives the exact figure, or refuses". The figure counts steps of the size `from`, in mV for a voltage and in mA for a
 -- current.

@@ -7,6 +7,7 @@ mod rounding;
 mod scaling;
 mod voltages;
 
+pub use rounding::round_both;
 pub use rounding::round_down;
 pub use rounding::round_up;
 
@@ -41,6 +42,14 @@ pub struct Mw250(pub u16);
 // Power in half watts: what a port is rated for (PDP).
 #[repr(C)]
 pub struct HalfWatts(pub u16);
+
+// Both roundings of one quotient.
+pub struct Roundings {
+    // Rounded down.
+    pub down: u32,
+    // Rounded up.
+    pub up: u32,
+}
 
 // A voltage asked for in steps of 20 mV. A conversion never loses anything: it gives the same measure, or it refuses.
 pub enum InMv20 {

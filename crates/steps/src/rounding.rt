@@ -1,5 +1,6 @@
 // Rounding a quotient, proved once over numerator and divisor (docs/STATEMENT.md, "What the contracts settle").
-ghost use Rattle.steps.specs.Promises.{RoundedDown, RoundedUp};
+ghost use Rattle.steps.specs.Promises.{RoundedDown, RoundedUp, RoundedBoth};
+use crate::Roundings;
 
 // The quotient rounded down: the greatest whole number that is not above it. A divisor of 0 gives 0.
 pub fn round_down(numerator: u32, divisor: u32) -> u32
@@ -12,13 +13,27 @@ pub fn round_down(numerator: u32, divisor: u32) -> u32
 pub fn round_up(numerator: u32, divisor: u32) -> u32
     ensures { λ r. ⌜ RoundedUp numerator divisor r ⌝ }
 {
+    round_both(numerator, divisor).up
+}
+
+// Both roundings from one division. A divisor of 0 gives 0 both ways.
+pub fn round_both(numerator: u32, divisor: u32) -> Roundings
+    ensures { λ r. ⌜ RoundedBoth numerator divisor r ⌝ }
+{
     if divisor == 0 {
-        return 0;
+        return Roundings { down: 0, up: 0 };
     }
-    // No sum of numerator and divisor is made: it would not fit for large numerators.
     let quotient = numerator / divisor;
-    if numerator % divisor == 0 {
-        return quotient;
+    // With `%`, a compiler that does not see that one division gives both makes two.
+    let remainder = numerator - quotient * divisor;
+    if remainder == 0 {
+        return Roundings {
+            down: quotient,
+            up: quotient,
+        };
     }
-    quotient + 1
+    Roundings {
+        down: quotient,
+        up: quotient + 1,
+    }
 }

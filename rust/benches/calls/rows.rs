@@ -125,5 +125,6 @@ fn of_steps() -> Vec<Row> {
         row!("Ma50::to_ma10", inputs::figures(), ma50_to_ma10 as fn(u16) -> _ | fn(u16) -> _, |f| (*f), |f| (*f)),
         row!("steps::round_down", inputs::quotients(), round_down as fn(_, _) -> _ | fn(_, _) -> _, |(n, d)| (*n, *d), |(n, d)| (*n, *d)),
         row!("steps::round_up", inputs::quotients(), round_up as fn(_, _) -> _ | fn(_, _) -> _, |(n, d)| (*n, *d), |(n, d)| (*n, *d)),
+        row!("steps::round_both", inputs::quotients(), round_both as fn(_, _) -> _ | fn(_, _) -> _, |(n, d)| (*n, *d), |(n, d)| (*n, *d)),
     ]
 }

@@ -9,7 +9,7 @@ use arinduleu::objects::{Decoded, Encoded, Object};
 use arinduleu::ports::{RemainingPower, Row};
 use arinduleu::requests::{Asked, Request};
 use arinduleu::rules::{Profile, Profiled};
-use arinduleu::steps::{InMa10, InMa50, InMv100, InMv20, InMv50};
+use arinduleu::steps::{InMa10, InMa50, InMv100, InMv20, InMv50, Roundings};
 use arinduleu::verdicts::Verdict;
 
 pub trait Plain: Clone {
@@ -76,6 +76,7 @@ pub struct PlainTurn {
 }
 
 translate! {
+    Roundings => (u32, u32): |r| (r.down, r.up);
     Verdict => model::Verdict: |v| model::Verdict { number: v.number, place: v.place };
     Words => model::Words: |l| model::Words { words: l.words, count: l.count };
     Listing => model::Listing: |l| model::Listing { verdict: l.verdict.plain(), list: l.list.plain() };

@@ -21,6 +21,7 @@ pub mod library {
     use arinduleu::rules::{Profile, Profiled};
     use arinduleu::steps::{
         self, InMa10, InMa50, InMv100, InMv20, InMv50, Ma10, Ma50, Mv100, Mv20, Mv25, Mv50,
+        Roundings,
     };
     use arinduleu::verdicts::Verdict;
 
@@ -65,6 +66,7 @@ pub mod library {
         ma50_to_ma10(figure: u16) -> InMa10 = Ma50(figure).to_ma10();
         round_down(numerator: u32, divisor: u32) -> u32 = steps::round_down(numerator, divisor);
         round_up(numerator: u32, divisor: u32) -> u32 = steps::round_up(numerator, divisor);
+        round_both(numerator: u32, divisor: u32) -> Roundings = steps::round_both(numerator, divisor);
     }
 }
 
@@ -115,5 +117,6 @@ pub mod plain {
         ma50_to_ma10(figure: u16) -> Option<u16> = model::convert(figure, 50, 10);
         round_down(numerator: u32, divisor: u32) -> u32 = model::round_down(numerator, divisor);
         round_up(numerator: u32, divisor: u32) -> u32 = model::round_up(numerator, divisor);
+        round_both(numerator: u32, divisor: u32) -> (u32, u32) = model::round_both(numerator, divisor);
     }
 }

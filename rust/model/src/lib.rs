@@ -22,7 +22,7 @@ pub use messages::{read_message, take_message, write_message};
 pub use ports::{advertise, attach, detach, remaining, request, set_up};
 pub use requests::{answer, judge, position, take_apart};
 pub use rules::{build, check, default_profile};
-pub use steps::{convert, round_down, round_up};
+pub use steps::{convert, round_both, round_down, round_up};
 pub use words::{decode, encode, reserved_bit_set};
 
 #[derive(Clone, Copy, Debug, PartialEq, Eq, Default)]

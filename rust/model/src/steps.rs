@@ -24,3 +24,9 @@ pub fn round_up(numerator: u32, divisor: u32) -> u32 {
     }
     numerator.div_ceil(divisor)
 }
+
+/// Both, down first.
+#[inline]
+pub fn round_both(numerator: u32, divisor: u32) -> (u32, u32) {
+    (round_down(numerator, divisor), round_up(numerator, divisor))
+}

@@ -111,6 +111,13 @@ fn compare(run: &mut Run, n: u32, d: u32) {
         model::round_down(n, d),
     );
     run.same("round_up", &(n, d), round_up(n, d), model::round_up(n, d));
+    let both = round_both(n, d);
+    run.same(
+        "round_both",
+        &(n, d),
+        (both.down, both.up),
+        model::round_both(n, d),
+    );
     run.reached(match n.checked_rem(d) {
         None => "divisor 0",
         Some(0) => "whole",

@@ -151,5 +151,7 @@ fn quotients_rounded() {
     for (name, numerator, divisor, down, up) in ROUNDINGS {
         assert_eq!(round_down(numerator, divisor), down, "{name}: down");
         assert_eq!(round_up(numerator, divisor), up, "{name}: up");
+        let both = round_both(numerator, divisor);
+        assert_eq!((both.down, both.up), (down, up), "{name}: both");
     }
 }

@@ -115,6 +115,7 @@ fn steps() {
     assert_eq!((round_down(7, 2), round_up(7, 2)), (3, 4));
     assert_eq!(round_up(u32::MAX, 2), 1 << 31);
     assert_eq!((round_down(7, 0), round_up(7, 0)), (0, 0));
+    assert_eq!(round_both(7, 2), (3, 4));
 }
 
 #[test]
