@@ -118,6 +118,13 @@ rail-volts (suc (suc zero)) = omega arith
 rail-volts (suc (suc (suc zero))) = omega arith
 rail-volts (suc (suc (suc (suc i)))) = omega arith
 
+pub rail-volts-above-0 : (i : ℕ) → i < 4 → 0 < getD rails i (row 0 0) .volts
+rail-volts-above-0 zero h = omega arith
+rail-volts-above-0 (suc zero) h = omega arith
+rail-volts-above-0 (suc (suc zero)) h = omega arith
+rail-volts-above-0 (suc (suc (suc zero))) h = omega arith
+rail-volts-above-0 (suc (suc (suc (suc i)))) h = absurd (omega arith)
+
 -- ---- AVS, after the fixed part
 
 abbrev pub afterRails : ℕ → ℕ

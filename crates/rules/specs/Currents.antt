@@ -1,6 +1,6 @@
 -- Currents (STATEMENT, "The builder" and "The rule check"). P chooses them, and for PPS M does.
 -- Assumes nothing.
-use mathlib.Core.Bool.{Bool, cond, _&&_, _||_}
+use mathlib.Core.Bool.{Bool, not, cond, _&&_, _||_}
 use Prim.Native.Nat.{ℕ, zero, suc, _*_, min}
 use lib.Dec.{leb, ltb, eqb}
 use Rattle.steps.specs.Rounding.{downOf, upOf}
@@ -40,6 +40,17 @@ fixedAllowed p volts a =
     (cond (ltb (6 * volts) (p .present .0))
     (leb 300 a && leb a (min (upAt p volts) (cable10mA p)))
     (eqb a (downAt p volts) || eqb a (upAt p volts)))
+
+-- The same as the code goes, in two cases: P above 3 A at 5, 9 and 15 V, and all else. `above-3-A` and `not-above-3-A` (proofs/Allowed) say that
+-- `fixedAllowed` is the one or the other.
+abbrev pub above3A : Profile → ℕ → Bool
+above3A p volts = not (eqb volts 20) && ltb (6 * volts) (p .present .0)
+
+abbrev pub allowedAbove3A : Profile → ℕ → ℕ → Bool
+allowedAbove3A p volts a = leb 300 a && leb a (min (upAt p volts) (cable10mA p))
+
+abbrev pub eitherRounding : Profile → ℕ → ℕ → Bool
+eitherRounding p volts a = eqb a (min (downAt p volts) (limitAt p volts)) || eqb a (min (upAt p volts) (limitAt p volts))
 
 -- ---- PPS, in 50 mA
 

@@ -1,7 +1,7 @@
 // The rule check of a list against a profile.
 ghost use mathlib.Core.Path.{_≡_};
 ghost use mathlib.Core.Bool.{Bool·beq, not};
-ghost use Prim.Native.Nat.{_≤_};
+ghost use Prim.Native.Nat.{_≤_, _<_};
 ghost use lib.Dec.{ltb, eqb};
 ghost use lib.ListN.{length};
 ghost use Rattle.verdicts.specs.Refusals.{verdict};
@@ -90,7 +90,7 @@ fn step(walk: Walk, found: Found) -> Walk
 // ---- the fixed part
 
 fn find_rail(p: Profile, volts: u16, d: Decoded) -> Found
-    requires { ⌜ Within p × (volts ≤ 20) ⌝ }
+    requires { ⌜ Within p × (0 < volts) × (volts ≤ 20) ⌝ }
     ensures { λ r. ⌜ r ≡ foundOf p (Fixed volts) d ⌝ }
 {
     let Decoded::Known(o) = d else {
@@ -115,7 +115,7 @@ fn find_rail(p: Profile, volts: u16, d: Decoded) -> Found
 
 // One place further, where M exceeds the row.
 fn follow_rail(p: Profile, list: Words, row: Rail, walk: Walk) -> Walk
-    requires { ⌜ Within p × (list .count ≤ 7) × (row .volts ≤ 20) × (walk .at ≤ 8) ⌝ }
+    requires { ⌜ Within p × (list .count ≤ 7) × (0 < row .volts) × (row .volts ≤ 20) × (walk .at ≤ 8) ⌝ }
     ensures { λ r. ⌜ r ≡ stepIf (exceeds (p .max .0) row) p list (Fixed (row .volts)) walk ⌝ }
 {
     if p.max.0 <= row.above.0 {

@@ -1,16 +1,22 @@
 // Currents: what is built, and what the rule check allows. Rounding is the one law of `steps`.
 ghost use mathlib.Core.Path.{_≡_};
 ghost use mathlib.Core.Bool.{_&&_};
-ghost use Prim.Native.Nat.{min};
+ghost use Prim.Native.Nat.{_*_, _<_, min};
 ghost use lib.Dec.{ltb};
 ghost use Rattle.rules.specs.Profiles.{Within};
-ghost use Rattle.rules.specs.Currents.{downAt, upAt, cable10mA, limitAt, builtCurrent, fixedAllowed, cable50mA, progDown, progLimit, progCurrent, mayExceed, progAllowed};
+ghost use Rattle.rules.specs.Currents.{downAt, upAt, cable10mA, limitAt, builtCurrent, fixedAllowed, above3A, allowedAbove3A, eitherRounding, cable50mA, progDown, progLimit, progCurrent, mayExceed, progAllowed};
 use crate::Profile;
 use steps::HalfWatts;
 use steps::Ma10;
 use steps::Ma50;
 
 // ---- fixed objects
+
+// A quotient in 10 mA, rounded both ways.
+pub struct RoundedCurrents {
+    pub down: Ma10,
+    pub up: Ma10,
+}
 
 fn smaller(a: Ma10, b: Ma10) -> Ma10
     ensures { λ r. ⌜ r .0 ≡ min (a .0) (b .0) ⌝ }
@@ -30,6 +36,17 @@ fn up_at(p: Profile, volts: u16) -> Ma10
     ensures { λ r. ⌜ r .0 ≡ upAt p volts ⌝ }
 {
     Ma10(steps::round_up(50 * (p.present.0 as u32), volts as u32) as u16)
+}
+
+fn both_at(p: Profile, volts: u16) -> RoundedCurrents
+    requires { ⌜ Within p ⌝ }
+    ensures { λ r. ⌜ (r .down .0 ≡ downAt p volts) × (r .up .0 ≡ upAt p volts) ⌝ }
+{
+    let both = steps::round_both(50 * (p.present.0 as u32), volts as u32);
+    RoundedCurrents {
+        down: Ma10(both.down as u16),
+        up: Ma10(both.up as u16),
+    }
 }
 
 fn cable(p: Profile) -> Ma10
@@ -59,30 +76,57 @@ pub(crate) fn built_current(p: Profile, volts: u16) -> Ma10
     smaller(up_at(p, volts), limit)
 }
 
-// Whether a fixed object may have this current.
-pub(crate) fn fixed_allowed(p: Profile, volts: u16, current: Ma10) -> bool
-    requires { ⌜ Within p ⌝ }
-    ensures { λ r. ⌜ r ≡ fixedAllowed p volts (current .0) ⌝ }
+// At 5, 9 and 15 V: "P is above six times the volts, which is 3 A there".
+fn above_3_a(p: Profile, volts: u16) -> bool
+    ensures { λ r. ⌜ r ≡ above3A p volts ⌝ }
 {
-    let down = down_at(p, volts);
-    let up = up_at(p, volts);
-    let cable = cable(p);
     if volts == 20 {
-        if current.0 == smaller(down, cable).0 {
-            return true;
-        }
-        return current.0 == smaller(up, cable).0;
+        return false;
     }
-    if 6 * (volts as u32) < p.present.0 as u32 {
-        if current.0 < 300 {
-            return false;
-        }
-        return current.0 <= smaller(up, cable).0;
+    6 * (volts as u32) < p.present.0 as u32
+}
+
+// There "from 3 A up to the smaller of the cable and the quotient rounded up". What 3 A and the cable decide needs no division; most lists
+// have 3 A here.
+fn allowed_above_3_a(p: Profile, volts: u16, current: Ma10) -> bool
+    requires { ⌜ Within p × (0 < volts) × (6 * volts < p .present .0) ⌝ }
+    ensures { λ r. ⌜ r ≡ allowedAbove3A p volts (current .0) ⌝ }
+{
+    if current.0 < 300 {
+        return false;
     }
-    if current.0 == down.0 {
+    if cable(p).0 < current.0 {
+        return false;
+    }
+    if current.0 == 300 {
         return true;
     }
-    current.0 == up.0
+    current.0 <= up_at(p, volts).0
+}
+
+// "the quotient rounded down, or rounded up", within its limit.
+fn either_rounding(p: Profile, volts: u16, current: Ma10) -> bool
+    requires { ⌜ Within p ⌝ }
+    ensures { λ r. ⌜ r ≡ eitherRounding p volts (current .0) ⌝ }
+{
+    let limit = limit_at(p, volts);
+    let both = both_at(p, volts);
+    if current.0 == smaller(both.down, limit).0 {
+        return true;
+    }
+    current.0 == smaller(both.up, limit).0
+}
+
+// Whether a fixed object may have this current. 20 V is one case with the others where P is not above 3 A: their limit of 3 A cuts nothing
+// off there.
+pub(crate) fn fixed_allowed(p: Profile, volts: u16, current: Ma10) -> bool
+    requires { ⌜ Within p × (0 < volts) ⌝ }
+    ensures { λ r. ⌜ r ≡ fixedAllowed p volts (current .0) ⌝ }
+{
+    if above_3_a(p, volts) {
+        return allowed_above_3_a(p, volts, current);
+    }
+    either_rounding(p, volts, current)
 }
 
 // ---- programmable supplies
@@ -147,7 +191,8 @@ pub(crate) fn prog_allowed(p: Profile, volts: u16, current: Ma50) -> bool
     requires { ⌜ Within p ⌝ }
     ensures { λ r. ⌜ r ≡ progAllowed p volts (current .0) ⌝ }
 {
-    let built = prog_current(p, volts);
+    let down = prog_down(p, volts);
+    let built = smaller_50(down, prog_limit(p, volts));
     if current.0 == built.0 {
         return true;
     }
@@ -155,7 +200,7 @@ pub(crate) fn prog_allowed(p: Profile, volts: u16, current: Ma50) -> bool
         if current.0 < built.0 {
             return false;
         }
-        return current.0 <= smaller_50(prog_down(p, volts), cable_50(p)).0;
+        return current.0 <= smaller_50(down, cable_50(p)).0;
     }
     false
 }

@@ -6,7 +6,7 @@ use Prim.Native.Nat.{ℕ, _-_, _≤_}
 use native.Mathlib.Omega.{arith}
 use Rattle.rules.specs.declared.checking.Walk.{Walk}
 use Rattle.rules.specs.Following.{followed}
-use Rattle.rules.proofs.TableWalk.{railsTo, rail-volts}
+use Rattle.rules.proofs.TableWalk.{railsTo, rail-volts-above-0, rail-volts}
 use Rattle.rules.proofs.Steps.{none-followed, rail-followed}
 use Rattle.rules.proofs.Followed.{at-most-8}
 use Rattle.rules.proofs.checking.follow_rails.Statement.{statement}
@@ -34,6 +34,7 @@ follow-rail-requires c κs =
     let seven = s .before .pre .1 in (
       s .before .pre .0,
       seven,
+      rail-volts-above-0 (s .loop .i) (c .before .loop-test .taken),
       rail-volts (s .loop .i),
       subst (λ (w : Walk). w .at ≤ 8) (sym (s .loop .inv .1)) (at-most-8 (x .p) (x .list) seven _),
     )

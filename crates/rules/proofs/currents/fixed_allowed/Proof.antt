@@ -1,114 +1,41 @@
--- `rules::currents::fixed_allowed` meets its contract: 20 V by itself, then by whether 3 A is passed.
+-- `rules::currents::fixed_allowed` meets its contract: by whether P is above 3 A.
 -- Assumes nothing.
-use mathlib.Core.Path.{ap, ap₂, sym, _∙_}
-use mathlib.Core.Bool.{Bool, _&&_, _||_}
-use borrow.Author.Tests.{le-leb, lt-leb, eq-eqb, ne-eqb}
-use Prim.Native.Nat.{min}
-use lib.Dec.{leb, eqb}
-use Rattle.rules.specs.Currents.{upAt, cable10mA}
-use Rattle.rules.proofs.Allowed.{at-20-V, above-3-A, up-to-3-A}
+use mathlib.Core.Path.{_≡_, sym, _∙_}
+use Prim.Native.Nat.{_*_, _<_}
+use Rattle.rules.proofs.Allowed.{above-3-A-means, above-3-A, not-above-3-A}
 use borrow.Author.Needs.{needs}
 use Rattle.rules.proofs.currents.fixed_allowed.Statement.{statement}
 use Rattle.rules.proofs.currents.fixed_allowed.Tie as tie
 
-down-at-requires : tie.Need-down-at-requires
-down-at-requires c κs = search needs
+above-3-a-requires : tie.Need-above-3-a-requires
+above-3-a-requires c κs = search needs
 
-up-at-requires : tie.Need-up-at-requires
-up-at-requires c κs = search needs
+is-above : (c : tie.Then1) → (c .before .before .args .volts ≡ 20 → ⊥) × (6 * c .before .before .args .volts < c .before .before .args .p .present .0)
+is-above c = above-3-A-means (c .before .before .args .p) _ (sym (c .before .above-3-a .ensures) ∙ c .if1 .taken)
 
-cable-requires : tie.Need-cable-requires
-cable-requires c κs = search needs
-
-smaller-requires : tie.Need-smaller-requires
-smaller-requires c κs = search needs
+allowed-above-3-a-requires : tie.Need-allowed-above-3-a-requires
+allowed-above-3-a-requires c κs =
+    let s = c .before .before in
+    (s .pre .0, s .pre .1, is-above c .1)
 
 returns : tie.Need-returns
 returns c =
-    let s = c .before .before .before in
-    let k = s .before .before in
-    let x = k .before .before .before .args in
-    sym (at-20-V (x .p) (x .volts) (x .current .0) (s .before .if1 .taken)
-    ∙ ap (λ (b : Bool). b || eqb (x .current .0) (min (upAt (x .p) (x .volts)) (cable10mA (x .p))))
-    (eq-eqb _ _ (c .if2 .taken ∙ s .smaller .ensures ∙ ap₂ min (k .before .before .down-at .ensures) (k .cable .ensures))))
+    let t = c .before in
+    let x = t .before .before .args in
+    c .allowed-above-3-a .ensures ∙ sym (above-3-A (x .p) (x .volts) (x .current .0) (is-above t .0) (is-above t .1))
 
-smaller-requires-2 : tie.Need-smaller-requires-2
-smaller-requires-2 c κs = search needs
+either-rounding-requires : tie.Need-either-rounding-requires
+either-rounding-requires c κs = search needs
 
 returns-2 : tie.Need-returns-2
 returns-2 c =
-    let t = c .before .before in
-    let s = t .before .before .before .before in
-    let k = s .before .before in
-    let x = k .before .before .before .args in
-    let d = s .smaller .ensures ∙ ap₂ min (k .before .before .down-at .ensures) (k .cable .ensures) in
-    ap (eqb (x .current .0)) (t .smaller2 .ensures ∙ ap₂ min (k .before .up-at .ensures) (k .cable .ensures))
-    ∙ sym (at-20-V (x .p) (x .volts) (x .current .0) (s .before .if1 .taken)
-    ∙ ap (λ (b : Bool). b || eqb (x .current .0) (min (upAt (x .p) (x .volts)) (cable10mA (x .p))))
-    (ne-eqb _ _ (λ e. t .before .if2 .left (e ∙ sym d))))
-
-mul-if3 : tie.Need-mul-if3
-mul-if3 c = search needs
-
-cast-if3 : tie.Need-cast-if3
-cast-if3 c = search needs
-
-returns-3 : tie.Need-returns-3
-returns-3 c =
-    let n = c .before .before .before .before in
-    let x = n .before .before .before .before .args in
-    sym (above-3-A (x .p) (x .volts) (x .current .0) (n .if1 .left) (c .before .before .if3 .taken)
-    ∙ ap (λ (b : Bool). b && leb (x .current .0) (min (upAt (x .p) (x .volts)) (cable10mA (x .p)))) (lt-leb 300 _ (c .if4 .taken)))
-
-smaller-requires-3 : tie.Need-smaller-requires-3
-smaller-requires-3 c κs = search needs
-
-returns-4 : tie.Need-returns-4
-returns-4 c =
-    let t = c .before .before in
-    let u = t .before .before .before in
-    let n = u .before .before in
-    let k = n .before in
-    let x = k .before .before .before .args in
-    ap (leb (x .current .0)) (t .smaller3 .ensures ∙ ap₂ min (k .before .up-at .ensures) (k .cable .ensures))
-    ∙ sym (above-3-A (x .p) (x .volts) (x .current .0) (n .if1 .left) (u .if3 .taken)
-    ∙ ap (λ (b : Bool). b && leb (x .current .0) (min (upAt (x .p) (x .volts)) (cable10mA (x .p)))) (le-leb 300 _ (t .before .if4 .left)))
-
-returns-5 : tie.Need-returns-5
-returns-5 c =
-    let e = c .before .before .before in
-    let n = e .before .before in
-    let k = n .before in
-    let x = k .before .before .before .args in
-    sym (up-to-3-A (x .p) (x .volts) (x .current .0) (n .if1 .left) (e .if3 .left)
-    ∙ ap (λ (b : Bool). b || eqb (x .current .0) (upAt (x .p) (x .volts))) (eq-eqb _ _ (c .if5 .taken ∙ k .before .before .down-at .ensures)))
-
-returns-6 : tie.Need-returns-6
-returns-6 c =
-    let f = c .before .before in
-    let e = f .before .before .before in
-    let n = e .before .before in
-    let k = n .before in
-    let x = k .before .before .before .args in
-    ap (eqb (x .current .0)) (k .before .up-at .ensures)
-    ∙ sym (up-to-3-A (x .p) (x .volts) (x .current .0) (n .if1 .left) (e .if3 .left)
-    ∙ ap (λ (b : Bool). b || eqb (x .current .0) (upAt (x .p) (x .volts))) (ne-eqb _ _ (λ q. f .if5 .left (q ∙ sym (k .before .before .down-at .ensures)))))
+    let e = c .before in
+    let s = e .before .before in
+    let x = s .args in
+    c .either-rounding .ensures
+    ∙ sym (not-above-3-A (x .p) (x .volts) (x .current .0) (s .pre .1) (sym (e .before .above-3-a .ensures) ∙ e .if1 .left))
 
 pub fixed-allowed-spec : {M : Type 1} → statement M
 fixed-allowed-spec =
     tie.close
-    (tie.spec
-    down-at-requires
-    up-at-requires
-    cable-requires
-    smaller-requires
-    returns
-    smaller-requires-2
-    returns-2
-    mul-if3
-    cast-if3
-    returns-3
-    smaller-requires-3
-    returns-4
-    returns-5
-    returns-6)
+    (tie.spec above-3-a-requires allowed-above-3-a-requires returns either-rounding-requires returns-2)
