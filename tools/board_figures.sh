@@ -24,10 +24,12 @@ opt-level s or at the one given (s, z, 1, 2, 3), and prints for each call
   - stack: the most bytes below the caller's, by painting the RAM;
   - instructions, by the emulator's counter: the mean over the benchmark's 2000
     seeded inputs, and the most over these and the hardest (every full port with
-    its own list, seven objects in every mix, eight ports that are all in use);
+    its own list, and for the rule check a step past 3 A; seven objects in every
+    mix; eight ports that are all in use);
   - divisions: calls of __aeabi_uidiv and __aeabi_uidivmod, counted by wrapping
-    them at link time; the instructions in them are in the figures above.
-Every answer is held to this machine's. It needs what tools/board_tests.sh needs.
+    them at link time; the instructions in them are in the figures above;
+and the divisions of the rule check of seven objects, the most that a list has.
+Every answer to those inputs is held to this machine's. It needs what tools/board_tests.sh needs.
 END
     exit 0
     ;;
@@ -53,7 +55,7 @@ library=rust/target/board/$target/release/libarinduleu_c.a
 model=rust/target/board/$target/release/libmodel_c.a
 
 # side NAME ARCHIVE OPTION...: NAME.figures gets for each call the mean and the most of instructions, the most stack, and of a second run the mean and
-# the most of divisions.
+# the most of divisions. NAME.seven gets those of the rule check of seven objects.
 side() {
   local name=$1 archive=$2
   shift 2
@@ -61,9 +63,10 @@ side() {
   answers_as_here "$name" "${counted[@]}"
   [ "$(head -n 1 "$made/out")" = "hundred 100" ] || fail "the emulator's clock does not count instructions: $(head -n 1 "$made/out")"
   mv "$made/out" "$made/plain"
-  build_for_board bench/board/measure.c "$made/measure" "$archive" "$@" -DDIVISIONS -Wl,--wrap=__aeabi_uidiv,--wrap=__aeabi_uidivmod
+  build_for_board bench/board/measure.c "$made/measure" "$archive" "$@" "${counting[@]}"
   answers_as_here "$name" "${counted[@]}"
   paste -d ' ' "$made/plain" "$made/out" | awk '/^arin_/ { print $1, $4 / $3, $6, $7, $13 / $11, $16 }' > "$made/$name.figures"
+  divisions_of_seven "$name" > "$made/$name.seven"
 }
 
 # flash ARCHIVE CALL...: bytes of code and constants.
@@ -104,3 +107,9 @@ paste -d ' ' "$made/library.figures" "$made/model.figures" | awk '
     if (mean <= 1.2 && most <= 1.2) within++
   }
   END { printf "\n%d of %d calls are within 1.20 of the model, in the mean and at the most.\n", within, NR }'
+echo
+echo "| the rule check of seven objects, six with a current that is judged | divisions, library | model |"
+echo "|---|--:|--:|"
+paste -d ' ' "$made/library.seven" "$made/model.seven" | awk '
+  BEGIN { told["built"] = "as the builder makes them"; told["past_3_A"] = "a step past 3 A where they have it" }
+  { printf "| %s | %d | %d |\n", told[$1], $2, $4 }'

@@ -21,6 +21,7 @@ and at 3, and builds with it for a Cortex-M0 and runs on an emulated micro:bit
   - examples/two_ports.c and the programs in tests/c, whose output is compared
     with what is stored;
   - the inputs of the benchmark, whose answers have to be those of this machine;
+  - the rule check of seven objects, whose divisions are counted;
   - examples/board, copied to another folder and made there, whose output is
     compared with examples/board/charger.out.
 It needs cargo, cc, arm-none-eabi-gcc with newlib, qemu-system-arm and, for the
@@ -52,16 +53,20 @@ end() {
 
 # at_level OPT-LEVEL: what is installed stays in a folder of that name.
 at_level() {
-  local where="on an emulated Cortex-M0, opt-level $1" prefix=$made/level-$1 source
+  local where="on an emulated Cortex-M0, opt-level $1" prefix=$made/level-$1 source counted
   CARGO_PROFILE_RELEASE_OPT_LEVEL=$1 quietly "the library does not build for $target, opt-level $1" \
     tools/install.sh --prefix "$prefix" --target "$target"
   for source in "${sources[@]}"; do
     build_for_board "$source" "$(program "$source")" "$prefix/lib/libarinduleu.a"
   done
   run_all "$where" "${emulator[@]}" -kernel
-  build_for_board bench/board/measure.c "$made/measure" "$prefix/lib/libarinduleu.a"
+  build_for_board bench/board/measure.c "$made/measure" "$prefix/lib/libarinduleu.a" "${counting[@]}"
   answers_as_here "$where"
   pass "each of $(awk '/^arin_/ { calls += $2 } END { print calls }' "$made/out") calls of the benchmark answers as on this machine, $where"
+  divisions_of_seven "$where" > "$made/seven"
+  counted="as built $(sed -n 's/^built //p' "$made/seven"), a step past 3 A $(sed -n 's/^past_3_A //p' "$made/seven")"
+  awk '$2 > ($1 == "built" ? 3 : 6) { exit 1 }' "$made/seven" || fail "the rule check of seven objects divides too often, $where: $counted"
+  pass "the rule check of seven objects divides no more often than it has to ($counted), $where"
 }
 
 # What a firmware author does: copies the folder, and makes it with what was installed.

@@ -3,7 +3,7 @@
  * MODEL, with the plain model; and each of these once more with DIVISIONS, to count these, since counting costs instructions itself.
  *
  * The file `inputs` has for each call two groups, each behind its number: the seeded inputs of the benchmark, whose mean is told, and the
- * hardest, among which and the seeded ones the most is looked for. The file `answers` gets every answer and the rows or the buffer that it
+ * hardest, among which and the seeded ones the most is looked for. The file `answers` gets every answer to them and the rows or the buffer that it
  * leaves, which tools/board_tests.sh holds to this machine's. bytes.h has their form.
  *
  * A cost is that of a whole call as a caller has it: the arguments are handed over from where they lie, and the answer is laid down.
@@ -284,6 +284,26 @@ static void measure_call(int n, uint32_t itself)
     print_figures((uint32_t[]){ made, seeded, instructions, all_divisions, most_instructions, most_stack, most_divisions });
 }
 
+#ifdef DIVISIONS
+/*
+ * The rule check of seven objects, the most that a list has: 5, 9, 15 and 20 V, AVS, 15 V Prog and 20 V Prog. `steps` are added to the four that
+ * are 3 A, at 5, 9 and 15 V and of 15 V Prog, and to the first current of AVS, which is that of 15 V. Prints the count, the refusal and the divisions:
+ * 7 and 0, and of divisions no more than one for each of the six that are not AVS.
+ */
+static void count_divisions_of_seven(const char *name, uint32_t steps)
+{
+    profile = (struct arin_profile){ .max = 110, .present = 110, .cable = 5, .pps = 1 };
+    list = CALL(build)(GIVE(profile)).list;
+    for (int i = 0; i < 3; i++)
+        list.words[i] += steps;
+    list.words[4] += steps << 10;
+    list.words[5] += steps;
+    divisions = 0;
+    verdict = CALL(check)(GIVE(profile), GIVE(list));
+    printf("seven %s %d %d %lu\n", name, list.count, verdict.number, (unsigned long)divisions);
+}
+#endif
+
 int main(void)
 {
     uint32_t itself;
@@ -297,5 +317,9 @@ int main(void)
     printf("hundred %lu\n", (unsigned long)(measure(hundred_instructions).instructions - itself));
     for (int n = 0; n < CALLS; n++)
         measure_call(n, itself);
+#ifdef DIVISIONS
+    count_divisions_of_seven("built", 0);
+    count_divisions_of_seven("past_3_A", 1);
+#endif
     return fclose(answers) == 0 ? 0 : 1;
 }

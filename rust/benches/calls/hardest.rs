@@ -1,5 +1,5 @@
-//! Inputs that ask for the most work: every full port with its own list, lists of seven objects in every mix of kinds, and eight rows that are
-//! all in use. They stand beside the seeded ones where the most that a call takes is looked for.
+//! Inputs that ask for the most work: every full port with its own list, and for the rule check with a step past 3 A; lists of seven objects
+//! in every mix of kinds; and eight rows that are all in use. They stand beside the seeded ones where the most that a call takes is looked for.
 
 use crate::inputs::Turn;
 use crate::lists::{fixed, push};
@@ -115,8 +115,30 @@ pub fn lists() -> Vec<Words> {
     [built(), mixed()].concat()
 }
 
+/// A step more where the list has 3 A below 20 V. With a 5 A cable the rule check has to divide for it, and at 3 A it need not.
+fn past_3_a(list: Words) -> Words {
+    let words = list.words.map(|word| match decode(word) {
+        Decoded::Known(Object::Fixed { volts, current, .. })
+            if volts.0 < 400 && current.0 == 300 =>
+        {
+            word + 1
+        }
+        Decoded::Known(Object::Pps { max, current, .. }) if max.0 < 210 && current.0 == 60 => {
+            word + 1
+        }
+        Decoded::Known(Object::Avs { low, .. }) if low.0 == 300 => word + (1 << 10),
+        _ => word,
+    });
+    Words { words, ..list }
+}
+
 pub fn checks() -> Vec<(Profile, Words)> {
-    profiles().into_iter().zip(built()).collect()
+    let own: Vec<_> = profiles().into_iter().zip(built()).collect();
+    let with_5_a = own.iter().filter(|(profile, _)| profile.cable == 5);
+    let past = with_5_a
+        .map(|(profile, list)| (*profile, past_3_a(*list)))
+        .collect();
+    [own, past].concat()
 }
 
 pub fn flat_lists() -> Vec<FlatObjects> {
