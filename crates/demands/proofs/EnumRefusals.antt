@@ -5,6 +5,7 @@ use mathlib.Core.Bool.{Bool, true, false, true≢false, cond}
 use mathlib.Core.Logic.{_↔_, _⊎_, inl, inr, ⊎-elim}
 use Prim.Native.Nat.{ℕ, _-_, _<_}
 use native.Mathlib.Omega.{arith}
+use mathlib.Core.List.{List}
 use lib.ListN.{getD}
 use Rattle.steps.specs.declared.Mv20.{Mv20}
 use Rattle.steps.specs.declared.InMv20.{InMv20}
@@ -21,17 +22,18 @@ use Rattle.steps.specs.declared.InMa50.{InMa50}
 use Rattle.steps.specs.Ranges.{within}
 use Rattle.steps.specs.Measure.{convertedOf, mv20Says, mv25Says, mv50Says, mv100Says, ma10Says, ma50Says}
 use Rattle.steps.proofs.ConversionLaws.{exactly-only, lost-only, given-or-refused}
+use Rattle.objects.specs.declared.Side.the-variants.{Source}
 use Rattle.objects.specs.declared.Object.the-variants.{Fixed, Pps, Avs}
 use Rattle.objects.specs.declared.Decoded.{Decoded}
 use Rattle.objects.specs.declared.Decoded.the-variants.{Known, NotAllowed}
 use Rattle.objects.specs.declared.Encoded.{Encoded}
 use Rattle.objects.specs.declared.Encoded.the-variants.{Word, TooWide}
 use Rattle.objects.specs.Bits.{bits}
-use Rattle.objects.specs.Layout.{allFit}
-use Rattle.objects.specs.Decode.{zeroObject, decodeOf, decodedSays}
-use Rattle.objects.specs.Encode.{fieldsOf, encodeOf, encodedSays}
-use Rattle.objects.proofs.Numbers.{decode-refuses, encode-refuses}
-use Rattle.objects.proofs.Saying.{word-says, object-says}
+use Rattle.objects.specs.Layout.{Field, allFit}
+use Rattle.objects.specs.Decode.{kindBits, notAllowedFor, zeroObject, decodeOf, decodedSays}
+use Rattle.objects.specs.Encode.{fieldsOf, wordOf, encodedSays, fieldsSay}
+use Rattle.objects.proofs.Numbers.{decode-refuses, fields-refused}
+use Rattle.objects.proofs.Saying.{word-says, fields-say}
 use Rattle.lists.specs.declared.Words.{Words}
 use Rattle.rules.specs.declared.Placed.{Placed}
 use Rattle.rules.specs.declared.Placed.the-variants as placed
@@ -44,7 +46,7 @@ use Rattle.flat.specs.Flat.{raisedOf, raisedSays}
 use Rattle.flat.proofs.BothWays.{raise-refuses}
 use Rattle.flat.proofs.Saying.{flat-says}
 use Rattle.demands.specs.CallContracts.{Mv20ToMv25Answers, Mv20ToMv50Answers, Mv20ToMv100Answers, Mv25ToMv20Answers, Mv25ToMv50Answers, Mv25ToMv100Answers, Mv50ToMv20Answers, Mv50ToMv25Answers, Mv50ToMv100Answers, Mv100ToMv20Answers, Mv100ToMv25Answers, Mv100ToMv50Answers, Ma10ToMa50Answers, Ma50ToMa10Answers}
-use Rattle.demands.specs.EnumRefusals.{Converts, Conversions, OneRefusal, Decode12, Encode7, FixedWord7, PpsWord7, AvsWord7, Raise12, WordAt20}
+use Rattle.demands.specs.EnumRefusals.{Converts, Conversions, OneRefusal, DecodeFor12, Decode12, Encode7, FixedWord7, PpsWord7, AvsWord7, Raise12, WordAt20}
 
 -- ---- steps
 
@@ -150,15 +152,27 @@ encoded-two : (e : Encoded) → TwoWays 0 7 (encodedSays e)
 encoded-two (Word w) = inl refl
 encoded-two TooWide = inr (refl, refl)
 
+-- an answer by a test: refused where it is true
+pub refused-where : {A : Type 0} (none given : A) (n : ℕ) → (n ≡ 0 → ⊥) → (b : Bool) → OneRefusal none n (b ≡ true) (cond b (n, none) (0, given))
+refused-where none given n f true = one-refusal none n _ _ f (inr (refl, refl)) ((λ e. refl), (λ e. refl))
+refused-where none given n f false = one-refusal none n _ _ f (inl refl) ((λ e. absurd (f (sym e))), (λ e. absurd (true≢false (sym e))))
+
+pub decode-for-12 : DecodeFor12
+decode-for-12 side w r e = subst (OneRefusal zeroObject 12 (notAllowedFor side (kindBits w) ≡ true)) (sym e) (refused-where zeroObject _ 12 (λ z. omega (arith, z)) (notAllowedFor side (kindBits w)))
+
 pub decode-12 : Decode12
 decode-12 w r e =
-    subst (OneRefusal zeroObject 12 ((bits w 31 30 ≡ 3) × ((bits w 29 28 ≡ 1) ⊎ (bits w 29 28 ≡ 3)))) (sym (e ∙ word-says w))
+    subst (OneRefusal zeroObject 12 ((bits w 31 30 ≡ 3) × ((bits w 29 28 ≡ 1) ⊎ (bits w 29 28 ≡ 3)))) (sym (e ∙ word-says Source w))
     (one-refusal zeroObject 12 _ (decodedSays (decodeOf w)) (λ z. omega (arith, z)) (decoded-two (decodeOf w)) (decode-refuses w))
 
+-- whatever the layout
+pub fields-7 : (fs : List Field) (r : Encoded) → encodedSays r ≡ fieldsSay fs → OneRefusal 0 7 (allFit fs ≡ false) (encodedSays r)
+fields-7 fs r e =
+    subst (OneRefusal 0 7 (allFit fs ≡ false)) (sym (e ∙ fields-say fs))
+    (one-refusal 0 7 _ (encodedSays (wordOf fs)) (λ z. omega (arith, z)) (encoded-two (wordOf fs)) (fields-refused fs))
+
 pub encode-7 : Encode7
-encode-7 o r e =
-    subst (OneRefusal 0 7 (allFit (fieldsOf o) ≡ false)) (sym (e ∙ object-says o))
-    (one-refusal 0 7 _ (encodedSays (encodeOf o)) (λ z. omega (arith, z)) (encoded-two (encodeOf o)) (encode-refuses o))
+encode-7 o r e = fields-7 (fieldsOf o) r e
 
 pub fixed-word-7 : FixedWord7
 fixed-word-7 flags peak volts current r e = encode-7 (Fixed flags peak volts current) r e
@@ -178,7 +192,7 @@ raised-two raised.Unknown = inr (refl, refl)
 pub raise-12 : Raise12
 raise-12 x r e =
     subst (OneRefusal zeroObject 12 (4 < x .kind)) (sym (e ∙ flat-says x))
-    (one-refusal zeroObject 12 _ (raisedSays (raisedOf x)) (λ z. omega (arith, z)) (raised-two (raisedOf x)) (raise-refuses x))
+    (one-refusal zeroObject 12 _ (raisedSays (raisedOf x)) (λ z. omega (arith, z)) (raised-two (raisedOf x)) (raise-refuses Source x))
 
 -- ---- rules
 

@@ -1,13 +1,14 @@
 -- Proves the claims of specs/FlatOutcomes.antt.
 -- Assumes nothing.
 use mathlib.Core.Path.{sym, _∙_}
+use Rattle.objects.specs.declared.Side.{Side}
 use Rattle.lists.specs.declared.Words.{Words}
 use Rattle.rules.specs.declared.Profile.{Profile}
 use Rattle.flat.proofs.Saying.{raised-one}
 use Rattle.demands.specs.OneOutcome.{Settled}
 use Rattle.demands.specs.FlatOutcomes.{NoSecondFlatOutcome}
-use Rattle.demands.specs.FlatContracts.{FlattenAnswers, RaiseAnswers, FlatReadAnswers, FlatWriteAnswers}
-use Rattle.demands.specs.FlatContracts.{ArinDefaultAnswers, ArinBuildAnswers, ArinCheckAnswers, ArinShapeAnswers, ArinReadAnswers, ArinWriteAnswers, ArinAnswerAnswers}
+use Rattle.demands.specs.FlatContracts.{FlatReadForAnswers, FlatWriteForAnswers, FlattenAnswers, RaiseAnswers, FlatReadAnswers, FlatWriteAnswers}
+use Rattle.demands.specs.FlatContracts.{FlatReadForAnswers, FlatWriteForAnswers, ArinDefaultAnswers, ArinBuildAnswers, ArinCheckAnswers, ArinShapeAnswers, ArinReadAnswers, ArinWriteAnswers, ArinAnswerAnswers}
 
 -- ---- flat
 
@@ -17,8 +18,14 @@ flatten-settles o r s e f = e ∙ sym f
 pub raise-settles : Settled RaiseAnswers
 raise-settles x r s e f = raised-one r s (e ∙ sym f)
 
+pub flat-read-for-settles : (side : Side) → Settled (FlatReadForAnswers side)
+flat-read-for-settles side l r s e f = e ∙ sym f
+
 pub flat-read-settles : Settled FlatReadAnswers
 flat-read-settles l r s e f = e ∙ sym f
+
+pub flat-write-for-settles : (side : Side) → Settled (FlatWriteForAnswers side)
+flat-write-for-settles side o r s e f = e ∙ sym f
 
 pub flat-write-settles : Settled FlatWriteAnswers
 flat-write-settles o r s e f = e ∙ sym f
@@ -52,7 +59,9 @@ pub no-second-flat-outcome : NoSecondFlatOutcome
 no-second-flat-outcome = record {
   flatten = flatten-settles;
   raise = raise-settles;
+  flat-read-for = flat-read-for-settles;
   flat-read = flat-read-settles;
+  flat-write-for = flat-write-for-settles;
   flat-write = flat-write-settles;
   arin-default = arin-default-settles;
   arin-build = arin-build-settles;

@@ -4,7 +4,8 @@ use mathlib.Core.Path.{refl}
 use Rattle.verdicts.specs.Refusals.{firstOf, eachPlace}
 use Rattle.steps.specs.Rounding.{downOf, upOf}
 use Rattle.objects.specs.Bits.{bits}
-use Rattle.objects.specs.Decode.{decodeOf, reservedSet}
+use Rattle.objects.specs.Decode.{decodeOf}
+use Rattle.objects.specs.Reserved.{reservedSet}
 use Rattle.objects.specs.Encode.{wordOf}
 use Rattle.lists.specs.ObjectRules.{outOfBounds, over100W, mayFollow}
 use Rattle.lists.specs.Shape.{isFixed5V, hasFixed, avsDiffers}

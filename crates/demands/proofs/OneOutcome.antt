@@ -9,23 +9,24 @@ use Rattle.rules.proofs.Saying.{placed-one}
 use Rattle.steps.specs.declared.Mv50.{Mv50}
 use Rattle.steps.specs.declared.Mv100.{Mv100}
 use Rattle.steps.specs.declared.Ma10.{Ma10}
+use Rattle.objects.specs.declared.Side.{Side}
 use Rattle.objects.specs.declared.Object.{Object}
-use Rattle.demands.specs.CallContracts.{RoundDownAnswers, RoundUpAnswers, RoundBothAnswers}
-use Rattle.demands.specs.CallContracts.{Mv20ToMv25Answers, Mv20ToMv50Answers, Mv20ToMv100Answers, Mv25ToMv20Answers, Mv25ToMv50Answers, Mv25ToMv100Answers, Mv50ToMv20Answers, Mv50ToMv25Answers, Mv50ToMv100Answers, Mv100ToMv20Answers, Mv100ToMv25Answers, Mv100ToMv50Answers, Ma10ToMa50Answers, Ma50ToMa10Answers}
-use Rattle.demands.specs.CallContracts.{IsKindAnswers, DecodeAnswers, ReservedAnswers, EncodeAnswers, FixedWordAnswers, PpsWordAnswers, AvsWordAnswers}
-use Rattle.demands.specs.CallContracts.{ShapeAnswers, ReadAnswers, RefuseAnswers, WriteAnswers}
+use Rattle.demands.specs.CallContracts.{DecodeForAnswers, BadCountAnswers, ShapeForAnswers, ReadableAnswers, FinishedAnswers, RoundDownAnswers, RoundUpAnswers, RoundBothAnswers}
+use Rattle.demands.specs.CallContracts.{DecodeForAnswers, BadCountAnswers, ShapeForAnswers, ReadableAnswers, FinishedAnswers, Mv20ToMv25Answers, Mv20ToMv50Answers, Mv20ToMv100Answers, Mv25ToMv20Answers, Mv25ToMv50Answers, Mv25ToMv100Answers, Mv50ToMv20Answers, Mv50ToMv25Answers, Mv50ToMv100Answers, Mv100ToMv20Answers, Mv100ToMv25Answers, Mv100ToMv50Answers, Ma10ToMa50Answers, Ma50ToMa10Answers}
+use Rattle.demands.specs.CallContracts.{DecodeForAnswers, BadCountAnswers, ShapeForAnswers, ReadableAnswers, FinishedAnswers, IsKindAnswers, DecodeAnswers, ReservedAnswers, EncodeAnswers, FixedWordAnswers, PpsWordAnswers, AvsWordAnswers}
+use Rattle.demands.specs.CallContracts.{DecodeForAnswers, BadCountAnswers, ShapeForAnswers, ReadableAnswers, FinishedAnswers, ShapeAnswers, ReadAnswers, RefuseAnswers, WriteAnswers}
 use Rattle.rules.specs.declared.Profile.{Profile}
-use Rattle.demands.specs.CallContracts.{BadCableAnswers, DefaultAnswers, BuildAnswers, CheckAnswers, WordAtAnswers}
+use Rattle.demands.specs.CallContracts.{DecodeForAnswers, BadCountAnswers, ShapeForAnswers, ReadableAnswers, FinishedAnswers, BadCableAnswers, DefaultAnswers, BuildAnswers, CheckAnswers, WordAtAnswers}
 use Rattle.lists.specs.declared.Words.{Words}
-use Rattle.demands.specs.CallContracts.{PositionAnswers, TakeApartAnswers, AnswerAnswers, JudgeAnswers}
+use Rattle.demands.specs.CallContracts.{DecodeForAnswers, BadCountAnswers, ShapeForAnswers, ReadableAnswers, FinishedAnswers, PositionAnswers, TakeApartAnswers, AnswerAnswers, JudgeAnswers}
 use mathlib.Core.List.{List}
 use Rattle.steps.specs.declared.HalfWatts.{HalfWatts}
 use Rattle.verdicts.specs.declared.Verdict.{Verdict}
 use Rattle.lists.specs.declared.Listing.{Listing}
 use Rattle.ports.specs.declared.Row.{Row}
 use Rattle.ports.specs.declared.Standing.{Standing}
-use Rattle.demands.specs.CallContracts.{EmptiedAnswers, BeginAnswers, GoesOnAnswers, TakeRowAnswers, AllOrNoneAnswers, PlaceOfAnswers}
-use Rattle.demands.specs.CallContracts.{AttachDecides, AdvertiseDecides, OfferAnswers, RequestDecides, DetachDecides, RemainingDecides}
+use Rattle.demands.specs.CallContracts.{DecodeForAnswers, BadCountAnswers, ShapeForAnswers, ReadableAnswers, FinishedAnswers, EmptiedAnswers, BeginAnswers, GoesOnAnswers, TakeRowAnswers, AllOrNoneAnswers, PlaceOfAnswers}
+use Rattle.demands.specs.CallContracts.{DecodeForAnswers, BadCountAnswers, ShapeForAnswers, ReadableAnswers, FinishedAnswers, AttachDecides, AdvertiseDecides, OfferAnswers, RequestDecides, DetachDecides, RemainingDecides}
 use Rattle.board.specs.Promises.{SharesSetUp, SharesAttach, SharesAdvertise, SharesRequest, SharesDetach, SharesRemaining}
 use Rattle.demands.specs.OneOutcome.{Settled, Both, NoSecondOutcome}
 
@@ -94,8 +95,11 @@ is-kind-settles w kind r s e f = only e f
 pub decode-settles : Settled DecodeAnswers
 decode-settles w r s e f = decoded-one r s (only e f)
 
-pub reserved-bit-set-settles : (o : Object) (first : Bool) → Settled (ReservedAnswers o first)
-reserved-bit-set-settles o first w r s e f = only e f
+pub decode-for-settles : (side : Side) → Settled (DecodeForAnswers side)
+decode-for-settles side w r s e f = decoded-one r s (only e f)
+
+pub reserved-bit-set-settles : (side : Side) (o : Object) (first : Bool) → Settled (ReservedAnswers side o first)
+reserved-bit-set-settles side o first w r s e f = only e f
 
 pub encode-settles : Settled EncodeAnswers
 encode-settles o r s e f = encoded-one r s (only e f)
@@ -111,11 +115,23 @@ avs-word-settles peak low high r s e f = encoded-one r s (only e f)
 
 -- ---- lists
 
+pub bad-count-settles : Settled BadCountAnswers
+bad-count-settles n r s e f = only e f
+
+pub shape-for-settles : (side : Side) → Settled (ShapeForAnswers side)
+shape-for-settles side l r s e f = only e f
+
 pub shape-settles : Settled ShapeAnswers
 shape-settles l r s e f = only e f
 
+pub readable-settles : (side : Side) → Settled (ReadableAnswers side)
+readable-settles side l r s e f = only e f
+
 pub read-settles : Settled ReadAnswers
 read-settles l r s e f = only e f
+
+pub finished-settles : (side : Side) → Settled (FinishedAnswers side)
+finished-settles side m r s e f = only e f
 
 pub refuse-settles : (number : ℕ) → Settled (RefuseAnswers number)
 refuse-settles number place r s e f = only e f
@@ -235,14 +251,19 @@ no-second-outcome = record {
   ma50-to-ma10 = ma50-to-ma10-settles;
   is-kind = is-kind-settles;
   decode = decode-settles;
+  decode-for = decode-for-settles;
   reserved-bit-set = reserved-bit-set-settles;
   encode = encode-settles;
   fixed-word = fixed-word-settles;
   pps-word = pps-word-settles;
   avs-word = avs-word-settles;
+  bad-count = bad-count-settles;
+  shape-for = shape-for-settles;
   shape = shape-settles;
+  readable = readable-settles;
   read = read-settles;
   refuse = refuse-settles;
+  finished = finished-settles;
   write = write-settles;
   bad-cable = bad-cable-settles;
   default = default-settles;

@@ -19,6 +19,7 @@ use Rattle.lists.specs.Seven.{sevenTo}
 use Rattle.lists.specs.Reading.{readOf}
 use Rattle.lists.specs.Writing.{writeOf}
 use Rattle.lists.proofs.Sevens.{filled-at, same-seven}
+use Rattle.objects.specs.declared.Side.the-variants.{Source}
 use Rattle.lists.proofs.Readings.{read-clear}
 use Rattle.lists.proofs.RoundTrips as whole-list
 use Rattle.rules.specs.declared.Profile.{Profile}
@@ -53,7 +54,7 @@ pub built-returns : BuiltReturns
 built-returns p b e s r f w g =
     let x = built-clear p b e s in
     let sh = shape-clear p x in
-    let a = f ∙ ap readOf (built-list p b e s) ∙ read-clear (builtWords p) sh in (
+    let a = f ∙ ap readOf (built-list p b e s) ∙ read-clear Source (builtWords p) sh in (
       ap (λ (y : Reading). y .verdict) a,
       g ∙ ap (λ (y : Reading). writeOf (y .list)) a ∙ whole-list.read-write (builtWords p) (built-fits p x) sh ∙ ap listing (built-kept p x)
           ∙ sym (e ∙ build-clear p x),

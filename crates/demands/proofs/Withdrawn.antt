@@ -11,8 +11,11 @@ use borrow.Author.Tests.{eqb-true, eqb-false}
 use Rattle.verdicts.specs.declared.Verdict.{Verdict}
 use Rattle.verdicts.specs.Refusals.{Refusal, refusal}
 use Rattle.verdicts.proofs.First.{numbered, Without, without-append, without-numbered, not-first}
+use Rattle.objects.specs.declared.Side.{Side}
+use Rattle.objects.specs.declared.Side.the-variants.{Source}
+use Rattle.lists.specs.declared.Words.{Words}
 use Rattle.lists.specs.declared.Listing.{Listing}
-use Rattle.lists.specs.Shape.{shapeRefusals}
+use Rattle.lists.specs.Shape.{refusalsFor, shapeRefusals}
 use Rattle.lists.specs.Writing.{encodedAt, writeRefusals}
 use Rattle.lists.proofs.Shapes.{shape-numbered}
 use Rattle.lists.proofs.Writings.{write-numbered}
@@ -36,15 +39,18 @@ use Rattle.messages.specs.Reading.{takingRefusals, readingRefusals}
 use Rattle.messages.specs.Writing.{writingRefusals}
 use Rattle.messages.proofs.Readings.{taking-numbered, reading-numbered}
 use Rattle.messages.proofs.Writings.{writing-numbered}
+use Rattle.flat.specs.declared.FlatObjects.{FlatObjects}
+use Rattle.flat.specs.declared.FlatReading.{FlatReading}
 use Rattle.flat.specs.Writing.{encodedFlatAt, flatWriteRefusals}
-use Rattle.demands.specs.CallContracts.{TakeRowAnswers}
+use Rattle.demands.specs.CallContracts.{ShapeForAnswers, FinishedAnswers, TakeRowAnswers}
+use Rattle.demands.specs.FlatContracts.{FlatReadForAnswers, FlatWriteForAnswers}
 use Rattle.demands.specs.Refusals.{Answers}
 use Rattle.demands.specs.EnumRefusals.{OneRefusal}
 use Rattle.demands.specs.DecidingRefusals.{offerRefusals}
 use Rattle.demands.specs.Withdrawn.{Not21, Never21}
-use Rattle.demands.proofs.Refusals.{shape-refusals, read-refusals, write-refusals, default-refusals, build-refusals, check-refusals, answer-refusals, judge-refusals}
-use Rattle.demands.proofs.EnumRefusals.{decode-12, encode-7, fixed-word-7, pps-word-7, avs-word-7, word-at-20, raise-12}
-use Rattle.demands.proofs.FlatRefusals.{flat-read-refusals, flat-write-refusals}
+use Rattle.demands.proofs.Refusals.{shape-for-refusals, readable-refusals, finished-refusals, read-refusals, write-refusals, default-refusals, build-refusals, check-refusals, answer-refusals, judge-refusals}
+use Rattle.demands.proofs.EnumRefusals.{decode-12, decode-for-12, encode-7, fixed-word-7, pps-word-7, avs-word-7, word-at-20, raise-12}
+use Rattle.demands.proofs.FlatRefusals.{flat-read-for-refusals, flat-write-for-refusals}
 use Rattle.demands.proofs.MessageRefusals.{take-message-refusals, read-message-refusals, write-message-refusals, arin-take-message-refusals, arin-read-message-refusals, arin-write-message-refusals}
 use Rattle.demands.proofs.SharingRefusals.{set-up-refusals, attach-refusals, advertise-refusals, request-refusals, detach-refusals, remaining-refusals}
 use Rattle.demands.proofs.DecidingRefusals.{begin-refusals, take-row-refusals, attach-decides, advertise-decides, offer-refusals, request-decides, detach-decides, remaining-decides}
@@ -84,18 +90,44 @@ take-row-21 s y place fresh r e other = go (eqb (s .fault .number) 0) refl where
       let stays = take-row-refusals s y place fresh r e .1 (eqb-false (s .fault .number) 0 q) in
       λ z. other (sym (ap (λ (t : Standing). t .fault .number) stays) ∙ z)
 
+-- ---- the calls of either side
+
+shape-for-21 : (side : Side) (l : Words) (r : Verdict) → ShapeForAnswers side l r → Not21 (r .number)
+shape-for-21 side l r e = not-numbered r (refusalsFor side l) (shape-for-refusals side l r e) (shape-numbered side l)
+
+-- what was refused stands, and else the shape decides
+finished-21 : (side : Side) (m r : Listing) → FinishedAnswers side m r → Not21 (m .verdict .number) → Not21 (r .verdict .number)
+finished-21 side m r e other = go (eqb (m .verdict .number) 0) refl where
+  go : (b : Bool) → eqb (m .verdict .number) 0 ≡ b → Not21 (r .verdict .number)
+  go true q =
+      not-numbered (r .verdict) (refusalsFor side (m .list)) (finished-refusals side m r e .0 (eqb-true (m .verdict .number) 0 q) .0) (shape-numbered side (m .list))
+  go false q =
+      let stays = finished-refusals side m r e .1 (eqb-false (m .verdict .number) 0 q) in
+      λ z. other (sym (ap (λ (x : Listing). x .verdict .number) stays) ∙ z)
+
+flat-read-for-21 : (side : Side) (l : Words) (r : FlatReading) → FlatReadForAnswers side l r → Not21 (r .verdict .number)
+flat-read-for-21 side l r e = not-numbered (r .verdict) (refusalsFor side l) (flat-read-for-refusals side l r e .0) (shape-numbered side l)
+
+flat-write-for-21 : (side : Side) (f : FlatObjects) (r : Listing) → FlatWriteForAnswers side f r → Not21 (r .verdict .number)
+flat-write-for-21 side f r e =
+    not-numbered (r .verdict) (flatWriteRefusals side f) (flat-write-for-refusals side f r e .0) (write-numbered side (encodedFlatAt side (f .places)) (f .count))
+
 -- ---- the calls
 
 pub never-21 : Never21
 never-21 = record {
   decode = λ w r e. not-one (λ z. absurd (omega (arith, z))) (decode-12 w r e);
+  decode-for = λ side w r e. not-one (λ z. absurd (omega (arith, z))) (decode-for-12 side w r e);
   encode = λ o r e. not-one (λ z. absurd (omega (arith, z))) (encode-7 o r e);
   fixed-word = λ flags peak volts current r e. not-one (λ z. absurd (omega (arith, z))) (fixed-word-7 flags peak volts current r e);
   pps-word = λ limited max min current r e. not-one (λ z. absurd (omega (arith, z))) (pps-word-7 limited max min current r e);
   avs-word = λ peak low high r e. not-one (λ z. absurd (omega (arith, z))) (avs-word-7 peak low high r e);
-  shape = λ l r e. not-numbered r (shapeRefusals l) (shape-refusals l r e) (shape-numbered l);
-  read = λ l r e. not-numbered (r .verdict) (shapeRefusals l) (read-refusals l r e .0) (shape-numbered l);
-  write = λ o r e. not-numbered (r .verdict) (writeRefusals o) (write-refusals o r e .0) (write-numbered (encodedAt (o .places)) (o .count));
+  shape-for = shape-for-21;
+  shape = λ l r e. shape-for-21 Source l r e;
+  read = λ l r e. not-numbered (r .verdict) (shapeRefusals l) (read-refusals l r e .0) (shape-numbered Source l);
+  readable = λ side l r e. not-numbered (r .verdict) (refusalsFor side l) (readable-refusals side l r e .0) (shape-numbered side l);
+  finished = finished-21;
+  write = λ o r e. not-numbered (r .verdict) (writeRefusals o) (write-refusals o r e .0) (write-numbered Source (encodedAt (o .places)) (o .count));
   refuse = λ number place r e other z. other (sym (ap (λ (x : Listing). x .verdict .number) e) ∙ z);
   default-profile = λ m r e. not-numbered (r .verdict) (defaultRefusals m) (default-refusals m r e .0) refl;
   build = λ p r e. not-numbered (r .verdict) (buildRefusals p) (build-refusals p r e .0) (build-numbered p);
@@ -130,16 +162,16 @@ never-21 = record {
       not-among (r .verdict) (endRefusals (capacity .0) s) (remaining-decides s capacity r e .0)
       (end-without 21 refl (capacity .0) s (handed s other));
   raise = λ x r e. not-one (λ z. absurd (omega (arith, z))) (raise-12 x r e);
-  flat-read = λ l r e. not-numbered (r .verdict) (shapeRefusals l) (flat-read-refusals l r e .0) (shape-numbered l);
-  flat-write = λ f r e.
-      not-numbered (r .verdict) (flatWriteRefusals f) (flat-write-refusals f r e .0) (write-numbered (encodedFlatAt (f .places)) (f .count));
+  flat-read-for = flat-read-for-21;
+  flat-read = λ l r e. flat-read-for-21 Source l r e;
+  flat-write-for = flat-write-for-21;
+  flat-write = λ f r e. flat-write-for-21 Source f r e;
   arin-default-profile = λ m r e. not-numbered (r .verdict) (defaultRefusals (halfWatts m)) (default-refusals (halfWatts m) r e .0) refl;
   arin-build = λ p r e. not-numbered (r .verdict) (buildRefusals p) (build-refusals p r e .0) (build-numbered p);
   arin-check = λ p l r e. not-numbered r (checkRefusals p l) (check-refusals p l r e) (check-numbered p l);
-  arin-shape = λ l r e. not-numbered r (shapeRefusals l) (shape-refusals l r e) (shape-numbered l);
-  arin-read = λ l r e. not-numbered (r .verdict) (shapeRefusals l) (flat-read-refusals l r e .0) (shape-numbered l);
-  arin-write = λ f r e.
-      not-numbered (r .verdict) (flatWriteRefusals f) (flat-write-refusals f r e .0) (write-numbered (encodedFlatAt (f .places)) (f .count));
+  arin-shape = λ l r e. shape-for-21 Source l r e;
+  arin-read = λ l r e. flat-read-for-21 Source l r e;
+  arin-write = λ f r e. flat-write-for-21 Source f r e;
   arin-answer = λ l w r e. not-numbered r (answerRefusals l w) (answer-refusals l w r e) (answer-numbered l w);
   arin-take-message = λ bs r e. not-numbered (r .verdict) (takingRefusals bs) (arin-take-message-refusals bs r e .0) (taking-numbered bs);
   arin-read-message = λ bs r e. not-numbered (r .verdict) (readingRefusals bs) (arin-read-message-refusals bs r e .0) (reading-numbered bs);

@@ -9,7 +9,8 @@ use lib.ListN.{getD}
 use Rattle.verdicts.specs.Refusals.{firstOf, eachPlace, success, NoneApply}
 use Rattle.steps.specs.Rounding.{downOf, upOf}
 use Rattle.objects.specs.Bits.{bits}
-use Rattle.objects.specs.Decode.{decodeOf, reservedSet}
+use Rattle.objects.specs.Decode.{decodeOf}
+use Rattle.objects.specs.Reserved.{reservedSet}
 use Rattle.objects.specs.Encode.{wordOf}
 use Rattle.lists.specs.declared.Words.{Words}
 use Rattle.lists.specs.declared.Listing.{Listing}

@@ -37,11 +37,13 @@ use Rattle.steps.proofs.Mv100.to_mv25.Reads as mv100-to-mv25
 use Rattle.steps.proofs.Mv100.to_mv50.Reads as mv100-to-mv50
 use Rattle.steps.proofs.Ma10.to_ma50.Reads as ma10-to-ma50
 use Rattle.steps.proofs.Ma50.to_ma10.Reads as ma50-to-ma10
+use Rattle.objects.specs.declared.Side.{Side}
 use Rattle.objects.specs.declared.Object.{Object}
 use Rattle.objects.specs.declared.Decoded.{Decoded}
 use Rattle.objects.specs.declared.Encoded.{Encoded}
 use Rattle.objects.proofs.is_kind.Reads as is-kind
 use Rattle.objects.proofs.decode.Reads as decode
+use Rattle.objects.proofs.decode_for.Reads as decode-for
 use Rattle.objects.proofs.reserved_bit_set.Reads as reserved-bit-set
 use Rattle.objects.proofs.encode.Reads as encode
 use Rattle.objects.proofs.fixed_word.Reads as fixed-word
@@ -51,9 +53,14 @@ use Rattle.lists.specs.declared.Words.{Words}
 use Rattle.lists.specs.declared.Objects.{Objects}
 use Rattle.lists.specs.declared.Reading.{Reading}
 use Rattle.lists.specs.declared.Listing.{Listing}
+use Rattle.lists.specs.declared.Shaped.{Shaped}
+use Rattle.lists.proofs.bad_count.Reads as bad-count
+use Rattle.lists.proofs.shape_for.Reads as shape-for
 use Rattle.lists.proofs.shape.Reads as shape
+use Rattle.lists.proofs.readable.Reads as readable
 use Rattle.lists.proofs.read.Reads as read
 use Rattle.lists.proofs.refuse.Reads as refuse
+use Rattle.lists.proofs.finished.Reads as finished
 use Rattle.lists.proofs.write.Reads as write
 use Rattle.steps.specs.declared.HalfWatts.{HalfWatts}
 use Rattle.rules.specs.declared.Profile.{Profile}
@@ -147,8 +154,11 @@ IsKindAnswers w kind r = is-kind.Post tt (w, (kind, tt)) r (w, (kind, tt))
 abbrev pub DecodeAnswers : ℕ → Decoded → Type 0
 DecodeAnswers w r = decode.Post tt (w, tt) r (w, tt)
 
-abbrev pub ReservedAnswers : Object → Bool → ℕ → Bool → Type 0
-ReservedAnswers o first w r = reserved-bit-set.Post tt (o, (first, (w, tt))) r (o, (first, (w, tt)))
+abbrev pub DecodeForAnswers : Side → ℕ → Decoded → Type 0
+DecodeForAnswers side w r = decode-for.Post tt (side, (w, tt)) r (side, (w, tt))
+
+abbrev pub ReservedAnswers : Side → Object → Bool → ℕ → Bool → Type 0
+ReservedAnswers side o first w r = reserved-bit-set.Post tt (side, (o, (first, (w, tt)))) r (side, (o, (first, (w, tt))))
 
 abbrev pub EncodeAnswers : Object → Encoded → Type 0
 EncodeAnswers o r = encode.Post tt (o, tt) r (o, tt)
@@ -166,14 +176,26 @@ AvsWordAnswers peak low high r = avs-word.Post tt (peak, (low, (high, tt))) r (p
 
 -- ---- lists
 
+abbrev pub BadCountAnswers : ℕ → Bool → Type 0
+BadCountAnswers n r = bad-count.Post tt (n, tt) r (n, tt)
+
+abbrev pub ShapeForAnswers : Side → Words → Verdict → Type 0
+ShapeForAnswers side l r = shape-for.Post tt (side, (l, tt)) r (side, (l, tt))
+
 abbrev pub ShapeAnswers : Words → Verdict → Type 0
 ShapeAnswers l r = shape.Post tt (l, tt) r (l, tt)
+
+abbrev pub ReadableAnswers : Side → Words → Shaped → Type 0
+ReadableAnswers side l r = readable.Post tt (side, (l, tt)) r (side, (l, tt))
 
 abbrev pub ReadAnswers : Words → Reading → Type 0
 ReadAnswers l r = read.Post tt (l, tt) r (l, tt)
 
 abbrev pub RefuseAnswers : ℕ → ℕ → Listing → Type 0
 RefuseAnswers number place r = refuse.Post tt (number, (place, tt)) r (number, (place, tt))
+
+abbrev pub FinishedAnswers : Side → Listing → Listing → Type 0
+FinishedAnswers side m r = finished.Post tt (side, (m, tt)) r (side, (m, tt))
 
 abbrev pub WriteAnswers : Objects → Listing → Type 0
 WriteAnswers o r = write.Post tt (o, tt) r (o, tt)

@@ -20,13 +20,14 @@ use Rattle.steps.specs.declared.Ma50.{Ma50}
 use Rattle.steps.specs.declared.InMa50.{InMa50}
 use Rattle.steps.specs.Ranges.{within}
 use Rattle.steps.specs.Measure.{mv20Says, mv25Says, mv50Says, mv100Says, ma10Says, ma50Says}
+use Rattle.objects.specs.declared.Side.{Side}
 use Rattle.objects.specs.declared.Object.{Object}
 use Rattle.objects.specs.declared.Object.the-variants.{Fixed, Pps, Avs}
 use Rattle.objects.specs.declared.Decoded.{Decoded}
 use Rattle.objects.specs.declared.Encoded.{Encoded}
 use Rattle.objects.specs.Bits.{bits}
 use Rattle.objects.specs.Layout.{allFit}
-use Rattle.objects.specs.Decode.{zeroObject, decodedSays}
+use Rattle.objects.specs.Decode.{kindBits, notAllowedFor, zeroObject, decodedSays}
 use Rattle.objects.specs.Encode.{fieldsOf, encodedSays}
 use Rattle.rules.specs.declared.Profile.{Profile}
 use Rattle.rules.specs.declared.Placed.{Placed}
@@ -36,7 +37,7 @@ use Rattle.flat.specs.declared.FlatObject.{FlatObject}
 use Rattle.flat.specs.declared.Raised.{Raised}
 use Rattle.flat.specs.Flat.{raisedSays}
 use Rattle.demands.specs.CallContracts.{Mv20ToMv25Answers, Mv20ToMv50Answers, Mv20ToMv100Answers, Mv25ToMv20Answers, Mv25ToMv50Answers, Mv25ToMv100Answers, Mv50ToMv20Answers, Mv50ToMv25Answers, Mv50ToMv100Answers, Mv100ToMv20Answers, Mv100ToMv25Answers, Mv100ToMv50Answers, Ma10ToMa50Answers, Ma50ToMa10Answers}
-use Rattle.demands.specs.CallContracts.{DecodeAnswers, EncodeAnswers, FixedWordAnswers, PpsWordAnswers, AvsWordAnswers, WordAtAnswers}
+use Rattle.demands.specs.CallContracts.{DecodeForAnswers, DecodeAnswers, EncodeAnswers, FixedWordAnswers, PpsWordAnswers, AvsWordAnswers, WordAtAnswers}
 use Rattle.demands.specs.FlatContracts.{RaiseAnswers}
 
 -- ---- steps: this refusal has no number
@@ -80,6 +81,12 @@ abbrev pub Decode12 : Type 0
 Decode12 =
     (w : ℕ) (r : Decoded) → DecodeAnswers w r
     → OneRefusal zeroObject 12 ((bits w 31 30 ≡ 3) × ((bits w 29 28 ≡ 1) ⊎ (bits w 29 28 ≡ 3))) (decodedSays r)
+
+-- of either side: 12 exactly for the kinds that it does not have
+abbrev pub DecodeFor12 : Type 0
+DecodeFor12 =
+    (side : Side) (w : ℕ) (r : Decoded) → DecodeForAnswers side w r
+    → OneRefusal zeroObject 12 (notAllowedFor side (kindBits w) ≡ true) (decodedSays r)
 
 -- 7 exactly where a field does not fit its bits
 abbrev pub Encode7 : Type 0

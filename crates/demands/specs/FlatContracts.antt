@@ -3,6 +3,7 @@
 -- Assumes nothing.
 use Prim.Native.Nat.{ℕ}
 use Rattle.verdicts.specs.declared.Verdict.{Verdict}
+use Rattle.objects.specs.declared.Side.{Side}
 use Rattle.objects.specs.declared.Object.{Object}
 use Rattle.lists.specs.declared.Words.{Words}
 use Rattle.lists.specs.declared.Listing.{Listing}
@@ -14,7 +15,9 @@ use Rattle.flat.specs.declared.FlatReading.{FlatReading}
 use Rattle.flat.specs.declared.Raised.{Raised}
 use Rattle.flat.proofs.flatten.Reads as flatten
 use Rattle.flat.proofs.raise.Reads as raise
+use Rattle.flat.proofs.flat_read_for.Reads as flat-read-for
 use Rattle.flat.proofs.flat_read.Reads as flat-read
+use Rattle.flat.proofs.flat_write_for.Reads as flat-write-for
 use Rattle.flat.proofs.flat_write.Reads as flat-write
 use Rattle.board.proofs.arin_default_profile.Reads as arin-default-profile
 use Rattle.board.proofs.arin_build.Reads as arin-build
@@ -32,8 +35,14 @@ FlattenAnswers o r = flatten.Post tt (o, tt) r (o, tt)
 abbrev pub RaiseAnswers : FlatObject → Raised → Type 0
 RaiseAnswers x r = raise.Post tt (x, tt) r (x, tt)
 
+abbrev pub FlatReadForAnswers : Side → Words → FlatReading → Type 0
+FlatReadForAnswers side l r = flat-read-for.Post tt (side, (l, tt)) r (side, (l, tt))
+
 abbrev pub FlatReadAnswers : Words → FlatReading → Type 0
 FlatReadAnswers l r = flat-read.Post tt (l, tt) r (l, tt)
+
+abbrev pub FlatWriteForAnswers : Side → FlatObjects → Listing → Type 0
+FlatWriteForAnswers side f r = flat-write-for.Post tt (side, (f, tt)) r (side, (f, tt))
 
 abbrev pub FlatWriteAnswers : FlatObjects → Listing → Type 0
 FlatWriteAnswers f r = flat-write.Post tt (f, tt) r (f, tt)

@@ -6,9 +6,11 @@ use mathlib.Core.Path.{_≡_}
 use Prim.Native.Nat.{ℕ}
 use Rattle.verdicts.specs.declared.Verdict.{Verdict}
 use Rattle.verdicts.specs.Refusals.{success}
+use Rattle.objects.specs.declared.Side.{Side}
+use Rattle.objects.specs.declared.Side.the-variants.{Source}
 use Rattle.lists.specs.declared.Words.{Words}
 use Rattle.lists.specs.declared.Listing.{Listing}
-use Rattle.lists.specs.Shape.{shapeRefusals}
+use Rattle.lists.specs.Shape.{refusalsFor, shapeRefusals}
 use Rattle.lists.specs.Writing.{noWords}
 use Rattle.rules.specs.declared.Profile.{Profile}
 use Rattle.rules.specs.declared.Profiled.{Profiled}
@@ -20,22 +22,32 @@ use Rattle.flat.specs.declared.FlatReading.{FlatReading}
 use Rattle.flat.specs.Writing.{flatWriteRefusals}
 use Rattle.flat.specs.Kept.{noFlat}
 use Rattle.demands.specs.Refusals.{Answers}
-use Rattle.demands.specs.FlatContracts.{FlatReadAnswers, FlatWriteAnswers}
-use Rattle.demands.specs.FlatContracts.{ArinDefaultAnswers, ArinBuildAnswers, ArinCheckAnswers, ArinShapeAnswers, ArinReadAnswers, ArinWriteAnswers, ArinAnswerAnswers}
+use Rattle.demands.specs.FlatContracts.{FlatReadForAnswers, FlatWriteForAnswers, FlatReadAnswers, FlatWriteAnswers}
+use Rattle.demands.specs.FlatContracts.{FlatReadForAnswers, FlatWriteForAnswers, ArinDefaultAnswers, ArinBuildAnswers, ArinCheckAnswers, ArinShapeAnswers, ArinReadAnswers, ArinWriteAnswers, ArinAnswerAnswers}
 
 -- ---- flat
 
--- reading refuses as the shape check does, and gives an empty list with it
+-- of either side: reading refuses as the shape check does, and gives an empty list with it
+abbrev pub FlatReadForRefusals : Type 0
+FlatReadForRefusals =
+    (side : Side) (l : Words) (r : FlatReading) → FlatReadForAnswers side l r
+    → Answers (r .verdict) (refusalsFor side l) × ((r .verdict ≡ success → ⊥) → r .list ≡ noFlat)
+
 abbrev pub FlatReadRefusals : Type 0
 FlatReadRefusals =
     (l : Words) (r : FlatReading) → FlatReadAnswers l r
     → Answers (r .verdict) (shapeRefusals l) × ((r .verdict ≡ success → ⊥) → r .list ≡ noFlat)
 
--- 10, then 7, then what the shape of the words made refuses
+-- of either side: 10, then 7, then what the shape of the words made refuses
+abbrev pub FlatWriteForRefusals : Type 0
+FlatWriteForRefusals =
+    (side : Side) (f : FlatObjects) (r : Listing) → FlatWriteForAnswers side f r
+    → Answers (r .verdict) (flatWriteRefusals side f) × ((r .verdict ≡ success → ⊥) → r .list ≡ noWords)
+
 abbrev pub FlatWriteRefusals : Type 0
 FlatWriteRefusals =
     (f : FlatObjects) (r : Listing) → FlatWriteAnswers f r
-    → Answers (r .verdict) (flatWriteRefusals f) × ((r .verdict ≡ success → ⊥) → r .list ≡ noWords)
+    → Answers (r .verdict) (flatWriteRefusals Source f) × ((r .verdict ≡ success → ⊥) → r .list ≡ noWords)
 
 -- ---- board, lists and requests
 
@@ -63,7 +75,7 @@ ArinReadRefusals =
 abbrev pub ArinWriteRefusals : Type 0
 ArinWriteRefusals =
     (f : FlatObjects) (r : Listing) → ArinWriteAnswers f r
-    → Answers (r .verdict) (flatWriteRefusals f) × ((r .verdict ≡ success → ⊥) → r .list ≡ noWords)
+    → Answers (r .verdict) (flatWriteRefusals Source f) × ((r .verdict ≡ success → ⊥) → r .list ≡ noWords)
 
 abbrev pub ArinAnswerRefusals : Type 0
 ArinAnswerRefusals = (l : Words) (w : ℕ) (r : Verdict) → ArinAnswerAnswers l w r → Answers r (answerRefusals l w)

@@ -4,6 +4,7 @@
 -- Assumes nothing.
 use mathlib.Core.Path.{_≡_}
 use Prim.Native.Nat.{ℕ}
+use Rattle.objects.specs.declared.Side.{Side}
 use Rattle.verdicts.specs.declared.Verdict.{Verdict}
 use Rattle.lists.specs.declared.Words.{Words}
 use Rattle.lists.specs.declared.Listing.{Listing}
@@ -12,13 +13,21 @@ use Rattle.rules.specs.declared.Profile.{Profile}
 use Rattle.flat.specs.declared.FlatObjects.{FlatObjects}
 use Rattle.flat.specs.declared.FlatReading.{FlatReading}
 use Rattle.flat.specs.Unread.{AgreeFlat}
-use Rattle.demands.specs.FlatContracts.{FlatReadAnswers, FlatWriteAnswers}
-use Rattle.demands.specs.FlatContracts.{ArinCheckAnswers, ArinShapeAnswers, ArinReadAnswers, ArinWriteAnswers, ArinAnswerAnswers}
+use Rattle.demands.specs.FlatContracts.{FlatReadForAnswers, FlatWriteForAnswers, FlatReadAnswers, FlatWriteAnswers}
+use Rattle.demands.specs.FlatContracts.{FlatReadForAnswers, FlatWriteForAnswers, ArinCheckAnswers, ArinShapeAnswers, ArinReadAnswers, ArinWriteAnswers, ArinAnswerAnswers}
 
 -- ---- flat
 
+abbrev pub FlatReadForDoesNotLook : Type 0
+FlatReadForDoesNotLook =
+    (side : Side) (l m : Words) → AgreeWords l m → (r s : FlatReading) → FlatReadForAnswers side l r → FlatReadForAnswers side m s → r ≡ s
+
 abbrev pub FlatReadDoesNotLook : Type 0
 FlatReadDoesNotLook = (l m : Words) → AgreeWords l m → (r s : FlatReading) → FlatReadAnswers l r → FlatReadAnswers m s → r ≡ s
+
+abbrev pub FlatWriteForDoesNotLook : Type 0
+FlatWriteForDoesNotLook =
+    (side : Side) (f g : FlatObjects) → AgreeFlat f g → (r s : Listing) → FlatWriteForAnswers side f r → FlatWriteForAnswers side g s → r ≡ s
 
 abbrev pub FlatWriteDoesNotLook : Type 0
 FlatWriteDoesNotLook = (f g : FlatObjects) → AgreeFlat f g → (r s : Listing) → FlatWriteAnswers f r → FlatWriteAnswers g s → r ≡ s

@@ -12,6 +12,7 @@ use Rattle.steps.specs.declared.Mv50.{Mv50}
 use Rattle.steps.specs.declared.Mv100.{Mv100}
 use Rattle.steps.specs.declared.Ma10.{Ma10}
 use Rattle.steps.specs.declared.HalfWatts.{HalfWatts}
+use Rattle.objects.specs.declared.Side.{Side}
 use Rattle.objects.specs.declared.Object.{Object}
 use Rattle.lists.specs.declared.Words.{Words}
 use Rattle.lists.specs.declared.Listing.{Listing}
@@ -19,14 +20,14 @@ use Rattle.rules.specs.declared.Profile.{Profile}
 use Rattle.ports.specs.declared.Row.{Row}
 use Rattle.ports.specs.declared.Standing.{Standing}
 use Rattle.board.specs.Promises.{SharesSetUp, SharesAttach, SharesAdvertise, SharesRequest, SharesDetach, SharesRemaining}
-use Rattle.demands.specs.CallContracts.{RoundDownAnswers, RoundUpAnswers, RoundBothAnswers}
-use Rattle.demands.specs.CallContracts.{Mv20ToMv25Answers, Mv20ToMv50Answers, Mv20ToMv100Answers, Mv25ToMv20Answers, Mv25ToMv50Answers, Mv25ToMv100Answers, Mv50ToMv20Answers, Mv50ToMv25Answers, Mv50ToMv100Answers, Mv100ToMv20Answers, Mv100ToMv25Answers, Mv100ToMv50Answers, Ma10ToMa50Answers, Ma50ToMa10Answers}
-use Rattle.demands.specs.CallContracts.{IsKindAnswers, DecodeAnswers, ReservedAnswers, EncodeAnswers, FixedWordAnswers, PpsWordAnswers, AvsWordAnswers}
-use Rattle.demands.specs.CallContracts.{ShapeAnswers, ReadAnswers, RefuseAnswers, WriteAnswers}
-use Rattle.demands.specs.CallContracts.{BadCableAnswers, DefaultAnswers, BuildAnswers, CheckAnswers, WordAtAnswers}
-use Rattle.demands.specs.CallContracts.{PositionAnswers, TakeApartAnswers, AnswerAnswers, JudgeAnswers}
-use Rattle.demands.specs.CallContracts.{EmptiedAnswers, BeginAnswers, GoesOnAnswers, TakeRowAnswers, AllOrNoneAnswers, PlaceOfAnswers}
-use Rattle.demands.specs.CallContracts.{AttachDecides, AdvertiseDecides, OfferAnswers, RequestDecides, DetachDecides, RemainingDecides}
+use Rattle.demands.specs.CallContracts.{DecodeForAnswers, BadCountAnswers, ShapeForAnswers, ReadableAnswers, FinishedAnswers, RoundDownAnswers, RoundUpAnswers, RoundBothAnswers}
+use Rattle.demands.specs.CallContracts.{DecodeForAnswers, BadCountAnswers, ShapeForAnswers, ReadableAnswers, FinishedAnswers, Mv20ToMv25Answers, Mv20ToMv50Answers, Mv20ToMv100Answers, Mv25ToMv20Answers, Mv25ToMv50Answers, Mv25ToMv100Answers, Mv50ToMv20Answers, Mv50ToMv25Answers, Mv50ToMv100Answers, Mv100ToMv20Answers, Mv100ToMv25Answers, Mv100ToMv50Answers, Ma10ToMa50Answers, Ma50ToMa10Answers}
+use Rattle.demands.specs.CallContracts.{DecodeForAnswers, BadCountAnswers, ShapeForAnswers, ReadableAnswers, FinishedAnswers, IsKindAnswers, DecodeAnswers, ReservedAnswers, EncodeAnswers, FixedWordAnswers, PpsWordAnswers, AvsWordAnswers}
+use Rattle.demands.specs.CallContracts.{DecodeForAnswers, BadCountAnswers, ShapeForAnswers, ReadableAnswers, FinishedAnswers, ShapeAnswers, ReadAnswers, RefuseAnswers, WriteAnswers}
+use Rattle.demands.specs.CallContracts.{DecodeForAnswers, BadCountAnswers, ShapeForAnswers, ReadableAnswers, FinishedAnswers, BadCableAnswers, DefaultAnswers, BuildAnswers, CheckAnswers, WordAtAnswers}
+use Rattle.demands.specs.CallContracts.{DecodeForAnswers, BadCountAnswers, ShapeForAnswers, ReadableAnswers, FinishedAnswers, PositionAnswers, TakeApartAnswers, AnswerAnswers, JudgeAnswers}
+use Rattle.demands.specs.CallContracts.{DecodeForAnswers, BadCountAnswers, ShapeForAnswers, ReadableAnswers, FinishedAnswers, EmptiedAnswers, BeginAnswers, GoesOnAnswers, TakeRowAnswers, AllOrNoneAnswers, PlaceOfAnswers}
+use Rattle.demands.specs.CallContracts.{DecodeForAnswers, BadCountAnswers, ShapeForAnswers, ReadableAnswers, FinishedAnswers, AttachDecides, AdvertiseDecides, OfferAnswers, RequestDecides, DetachDecides, RemainingDecides}
 
 -- two answers that a contract allows for one input are the same
 abbrev pub Settled : {A R : Type 0} → (A → R → Type 0) → Type 0
@@ -58,15 +59,20 @@ pub record NoSecondOutcome : Type 0 where
   -- objects
   pub is-kind : (w : ℕ) → Settled (IsKindAnswers w)
   pub decode : Settled DecodeAnswers
-  pub reserved-bit-set : (o : Object) (first : Bool) → Settled (ReservedAnswers o first)
+  pub decode-for : (side : Side) → Settled (DecodeForAnswers side)
+  pub reserved-bit-set : (side : Side) (o : Object) (first : Bool) → Settled (ReservedAnswers side o first)
   pub encode : Settled EncodeAnswers
   pub fixed-word : (flags peak : ℕ) (volts : Mv50) → Settled (FixedWordAnswers flags peak volts)
   pub pps-word : (limited : ℕ) (max min : Mv100) → Settled (PpsWordAnswers limited max min)
   pub avs-word : (peak : ℕ) (low : Ma10) → Settled (AvsWordAnswers peak low)
   -- lists
+  pub bad-count : Settled BadCountAnswers
+  pub shape-for : (side : Side) → Settled (ShapeForAnswers side)
   pub shape : Settled ShapeAnswers
+  pub readable : (side : Side) → Settled (ReadableAnswers side)
   pub read : Settled ReadAnswers
   pub refuse : (number : ℕ) → Settled (RefuseAnswers number)
+  pub finished : (side : Side) → Settled (FinishedAnswers side)
   pub write : Settled WriteAnswers
   -- rules
   pub bad-cable : Settled BadCableAnswers

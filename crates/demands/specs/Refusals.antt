@@ -12,12 +12,14 @@ use Prim.Native.Nat.{ℕ}
 use Rattle.verdicts.specs.declared.Verdict.{Verdict}
 use Rattle.verdicts.specs.Refusals.{Refusal, verdict, success, NoneApply, First}
 use Rattle.steps.specs.declared.HalfWatts.{HalfWatts}
+use Rattle.objects.specs.declared.Side.{Side}
 use Rattle.objects.specs.declared.Object.{Object}
 use Rattle.lists.specs.declared.Words.{Words}
+use Rattle.lists.specs.declared.Shaped.{Shaped}
 use Rattle.lists.specs.declared.Objects.{Objects}
 use Rattle.lists.specs.declared.Reading.{Reading}
 use Rattle.lists.specs.declared.Listing.{Listing}
-use Rattle.lists.specs.Shape.{shapeRefusals}
+use Rattle.lists.specs.Shape.{refusalsFor, shapeRefusals}
 use Rattle.lists.specs.Reading.{noObjects}
 use Rattle.lists.specs.Writing.{noWords, writeRefusals}
 use Rattle.rules.specs.declared.Profile.{Profile}
@@ -26,7 +28,7 @@ use Rattle.rules.specs.Profiles.{noProfile, defaultRefusals, buildRefusals}
 use Rattle.rules.specs.Checking.{checkRefusals}
 use Rattle.requests.specs.Judging.{refusalsOf}
 use Rattle.requests.specs.Answering.{answerRefusals}
-use Rattle.demands.specs.CallContracts.{ShapeAnswers, ReadAnswers, WriteAnswers, DefaultAnswers, BuildAnswers, CheckAnswers, AnswerAnswers, JudgeAnswers}
+use Rattle.demands.specs.CallContracts.{ShapeForAnswers, ShapeAnswers, ReadableAnswers, FinishedAnswers, ReadAnswers, WriteAnswers, DefaultAnswers, BuildAnswers, CheckAnswers, AnswerAnswers, JudgeAnswers}
 
 -- a verdict answers a table: success exactly when no row applies, and a row's number and place exactly when it is the first that applies
 abbrev pub Answers : Verdict → List Refusal → Type 0
@@ -34,8 +36,24 @@ Answers v rs = (v ≡ success ↔ NoneApply rs) × ((n p : ℕ) → (n ≡ 0 →
 
 -- ---- lists
 
+abbrev pub ShapeForRefusals : Type 0
+ShapeForRefusals = (side : Side) (l : Words) (r : Verdict) → ShapeForAnswers side l r → Answers r (refusalsFor side l)
+
 abbrev pub ShapeRefusals : Type 0
 ShapeRefusals = (l : Words) (r : Verdict) → ShapeAnswers l r → Answers r (shapeRefusals l)
+
+-- how many words there are to read: none on a refusal
+abbrev pub ReadableRefusals : Type 0
+ReadableRefusals =
+    (side : Side) (l : Words) (r : Shaped) → ReadableAnswers side l r
+    → Answers (r .verdict) (refusalsFor side l) × ((r .verdict ≡ success → ⊥) → r .count ≡ 0)
+
+-- what was refused before stays, and else the shape of the words decides
+abbrev pub FinishedRefusals : Type 0
+FinishedRefusals =
+    (side : Side) (m r : Listing) → FinishedAnswers side m r
+    → (m .verdict .number ≡ 0 → Answers (r .verdict) (refusalsFor side (m .list)) × ((r .verdict ≡ success → ⊥) → r .list ≡ noWords))
+    × ((m .verdict .number ≡ 0 → ⊥) → r ≡ m)
 
 -- reading refuses as the shape check does, and gives an empty list with it
 abbrev pub ReadRefusals : Type 0

@@ -6,6 +6,7 @@ use mathlib.Core.Path.{_≡_}
 use mathlib.Core.Bool.{Bool, false}
 use Prim.Native.Nat.{ℕ, _^_, _<_}
 use Rattle.verdicts.specs.Refusals.{success}
+use Rattle.objects.specs.declared.Side.{Side}
 use Rattle.objects.specs.declared.Object.{Object}
 use Rattle.objects.specs.declared.Decoded.{Decoded}
 use Rattle.objects.specs.declared.Decoded.the-variants.{Known}
@@ -16,15 +17,15 @@ use Rattle.lists.specs.declared.Objects.{Objects}
 use Rattle.lists.specs.declared.Reading.{Reading}
 use Rattle.lists.specs.declared.Listing.{Listing}
 use Rattle.lists.specs.Kept.{keptWords, keptObjects, Words32}
-use Rattle.demands.specs.CallContracts.{DecodeAnswers, ReservedAnswers, EncodeAnswers, ShapeAnswers, ReadAnswers, WriteAnswers}
+use Rattle.demands.specs.CallContracts.{DecodeForAnswers, DecodeAnswers, ReservedAnswers, EncodeAnswers, ShapeAnswers, ReadAnswers, WriteAnswers}
 
 -- ---- one word
 
--- a word of an allowed kind with no reserved bit set decodes to an object, and that object encodes back to the word
+-- a word of a kind that its side has, with no reserved bit set, decodes to an object, and that object encodes back to the word
 abbrev pub DecodeThenEncode : Type 0
 DecodeThenEncode =
-    (w : ℕ) → w < 2 ^ 32 → (o : Object) → DecodeAnswers w (Known o)
-    → (first : Bool) → ReservedAnswers o first w false → (e : Encoded) → EncodeAnswers o e → e ≡ Word w
+    (side : Side) (w : ℕ) → w < 2 ^ 32 → (o : Object) → DecodeForAnswers side w (Known o)
+    → (first : Bool) → ReservedAnswers side o first w false → (e : Encoded) → EncodeAnswers o e → e ≡ Word w
 
 -- an object whose fields fit encodes to a word, and that word decodes back to the object
 abbrev pub EncodeThenDecode : Type 0

@@ -7,16 +7,24 @@
 use mathlib.Core.Path.{_≡_}
 use Prim.Native.Nat.{ℕ}
 use Rattle.verdicts.specs.declared.Verdict.{Verdict}
+use Rattle.objects.specs.declared.Side.{Side}
 use Rattle.lists.specs.declared.Words.{Words}
+use Rattle.lists.specs.declared.Shaped.{Shaped}
 use Rattle.lists.specs.declared.Objects.{Objects}
 use Rattle.lists.specs.declared.Reading.{Reading}
 use Rattle.lists.specs.declared.Listing.{Listing}
 use Rattle.lists.specs.Unread.{AgreeWords, AgreeObjects}
 use Rattle.rules.specs.declared.Profile.{Profile}
-use Rattle.demands.specs.CallContracts.{ShapeAnswers, ReadAnswers, WriteAnswers, CheckAnswers, AnswerAnswers}
+use Rattle.demands.specs.CallContracts.{ShapeForAnswers, ReadableAnswers, ShapeAnswers, ReadAnswers, WriteAnswers, CheckAnswers, AnswerAnswers}
+
+abbrev pub ShapeForDoesNotLook : Type 0
+ShapeForDoesNotLook = (side : Side) (l m : Words) → AgreeWords l m → (r s : Verdict) → ShapeForAnswers side l r → ShapeForAnswers side m s → r ≡ s
 
 abbrev pub ShapeDoesNotLook : Type 0
 ShapeDoesNotLook = (l m : Words) → AgreeWords l m → (r s : Verdict) → ShapeAnswers l r → ShapeAnswers m s → r ≡ s
+
+abbrev pub ReadableDoesNotLook : Type 0
+ReadableDoesNotLook = (side : Side) (l m : Words) → AgreeWords l m → (r s : Shaped) → ReadableAnswers side l r → ReadableAnswers side m s → r ≡ s
 
 abbrev pub ReadDoesNotLook : Type 0
 ReadDoesNotLook = (l m : Words) → AgreeWords l m → (r s : Reading) → ReadAnswers l r → ReadAnswers m s → r ≡ s

@@ -12,12 +12,14 @@ use Rattle.steps.specs.declared.Mv100.{Mv100}
 use Rattle.steps.specs.declared.Ma10.{Ma10}
 use Rattle.steps.specs.declared.Ma50.{Ma50}
 use Rattle.steps.specs.declared.HalfWatts.{HalfWatts}
+use Rattle.objects.specs.declared.Side.{Side}
 use Rattle.objects.specs.declared.Object.{Object}
 use Rattle.objects.specs.declared.Decoded.{Decoded}
 use Rattle.objects.specs.declared.Encoded.{Encoded}
 use Rattle.objects.specs.Decode.{decodedSays}
 use Rattle.objects.specs.Encode.{encodedSays}
 use Rattle.lists.specs.declared.Words.{Words}
+use Rattle.lists.specs.declared.Shaped.{Shaped}
 use Rattle.lists.specs.declared.Objects.{Objects}
 use Rattle.lists.specs.declared.Reading.{Reading}
 use Rattle.lists.specs.declared.Listing.{Listing}
@@ -40,12 +42,12 @@ use Rattle.messages.specs.declared.Written.{Written}
 use Rattle.messages.specs.Promises.{TakesMessage, ReadsMessage, WritesMessage}
 use Rattle.board.specs.MessagePromises.{ArinTakesMessage, ArinReadsMessage, ArinWritesMessage}
 use Rattle.board.specs.Promises.{SharesSetUp, SharesAttach, SharesAdvertise, SharesRequest, SharesDetach, SharesRemaining}
-use Rattle.demands.specs.CallContracts.{DecodeAnswers, EncodeAnswers, FixedWordAnswers, PpsWordAnswers, AvsWordAnswers}
+use Rattle.demands.specs.CallContracts.{DecodeForAnswers, ShapeForAnswers, ReadableAnswers, FinishedAnswers, DecodeAnswers, EncodeAnswers, FixedWordAnswers, PpsWordAnswers, AvsWordAnswers}
 use Rattle.demands.specs.CallContracts.{ShapeAnswers, ReadAnswers, RefuseAnswers, WriteAnswers}
 use Rattle.demands.specs.CallContracts.{DefaultAnswers, BuildAnswers, CheckAnswers, WordAtAnswers}
 use Rattle.demands.specs.CallContracts.{AnswerAnswers, JudgeAnswers}
 use Rattle.demands.specs.CallContracts.{BeginAnswers, TakeRowAnswers, AttachDecides, AdvertiseDecides, OfferAnswers, RequestDecides, DetachDecides, RemainingDecides}
-use Rattle.demands.specs.FlatContracts.{RaiseAnswers, FlatReadAnswers, FlatWriteAnswers}
+use Rattle.demands.specs.FlatContracts.{FlatReadForAnswers, FlatWriteForAnswers, RaiseAnswers, FlatReadAnswers, FlatWriteAnswers}
 use Rattle.demands.specs.FlatContracts.{ArinDefaultAnswers, ArinBuildAnswers, ArinCheckAnswers, ArinShapeAnswers, ArinReadAnswers, ArinWriteAnswers, ArinAnswerAnswers}
 
 abbrev pub Not21 : ℕ → Type 0
@@ -54,13 +56,17 @@ Not21 n = n ≡ 21 → ⊥
 pub record Never21 : Type 0 where
   -- objects
   pub decode : (w : ℕ) (r : Decoded) → DecodeAnswers w r → Not21 (decodedSays r .0)
+  pub decode-for : (side : Side) (w : ℕ) (r : Decoded) → DecodeForAnswers side w r → Not21 (decodedSays r .0)
   pub encode : (o : Object) (r : Encoded) → EncodeAnswers o r → Not21 (encodedSays r .0)
   pub fixed-word : (flags peak : ℕ) (volts : Mv50) (current : Ma10) (r : Encoded) → FixedWordAnswers flags peak volts current r → Not21 (encodedSays r .0)
   pub pps-word : (limited : ℕ) (max min : Mv100) (current : Ma50) (r : Encoded) → PpsWordAnswers limited max min current r → Not21 (encodedSays r .0)
   pub avs-word : (peak : ℕ) (low high : Ma10) (r : Encoded) → AvsWordAnswers peak low high r → Not21 (encodedSays r .0)
-  -- lists; `refuse` gives the number that it is handed
+  -- lists; `refuse` gives the number that it is handed, and `finished` hands on a refusal
+  pub shape-for : (side : Side) (l : Words) (r : Verdict) → ShapeForAnswers side l r → Not21 (r .number)
   pub shape : (l : Words) (r : Verdict) → ShapeAnswers l r → Not21 (r .number)
   pub read : (l : Words) (r : Reading) → ReadAnswers l r → Not21 (r .verdict .number)
+  pub readable : (side : Side) (l : Words) (r : Shaped) → ReadableAnswers side l r → Not21 (r .verdict .number)
+  pub finished : (side : Side) (m r : Listing) → FinishedAnswers side m r → Not21 (m .verdict .number) → Not21 (r .verdict .number)
   pub write : (o : Objects) (r : Listing) → WriteAnswers o r → Not21 (r .verdict .number)
   pub refuse : (number place : ℕ) (r : Listing) → RefuseAnswers number place r → Not21 number → Not21 (r .verdict .number)
   -- rules
@@ -92,7 +98,9 @@ pub record Never21 : Type 0 where
       → Not21 (s .fault .number) → Not21 (r .verdict .number)
   -- flat
   pub raise : (x : FlatObject) (r : Raised) → RaiseAnswers x r → Not21 (raisedSays r .0)
+  pub flat-read-for : (side : Side) (l : Words) (r : FlatReading) → FlatReadForAnswers side l r → Not21 (r .verdict .number)
   pub flat-read : (l : Words) (r : FlatReading) → FlatReadAnswers l r → Not21 (r .verdict .number)
+  pub flat-write-for : (side : Side) (f : FlatObjects) (r : Listing) → FlatWriteForAnswers side f r → Not21 (r .verdict .number)
   pub flat-write : (f : FlatObjects) (r : Listing) → FlatWriteAnswers f r → Not21 (r .verdict .number)
   -- board, lists and requests
   pub arin-default-profile : (m : ℕ) (r : Profiled) → ArinDefaultAnswers m r → Not21 (r .verdict .number)

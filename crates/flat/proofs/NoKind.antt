@@ -7,10 +7,13 @@ use Prim.Native.Nat.{ℕ, _<_}
 use native.Mathlib.Omega.{arith}
 use Rattle.objects.specs.Bits.{bits}
 use Rattle.objects.specs.Layout.{allFit}
-use Rattle.objects.specs.Decode.{decodeOf, decodedNumber}
+use Rattle.objects.specs.declared.Side.{Side}
+use Rattle.objects.specs.declared.Side.the-variants.{Source, Sink}
+use Rattle.objects.specs.Decode.{decodeOf, decodeFor, allowedFor, decodedNumber}
 use Rattle.objects.specs.Encode.{fieldsOf, encodeOf, encodedNumber}
 use Rattle.objects.specs.declared.Object.{Object}
-use Rattle.objects.specs.declared.Decoded.the-variants.{NotAllowed}
+use Rattle.objects.specs.declared.Decoded.{Decoded}
+use Rattle.objects.specs.declared.Decoded.the-variants as decoded
 use Rattle.objects.specs.declared.Encoded.{Encoded}
 use Rattle.objects.specs.declared.Encoded.the-variants.{Word, TooWide}
 use Rattle.objects.proofs.Numbers.{encode-refuses}
@@ -20,14 +23,15 @@ use Rattle.lists.specs.Writing.{wordIn}
 use Rattle.flat.specs.declared.FlatObject.{FlatObject}
 use Rattle.flat.specs.declared.Raised.{Raised}
 use Rattle.flat.specs.declared.Raised.the-variants.{Known, Unknown}
-use Rattle.flat.specs.Flat.{raisedOf}
+use Rattle.flat.specs.Flat.{raisedFor, lastKind}
 use Rattle.flat.specs.Writing.{encodedRaised}
-use Rattle.flat.proofs.BothWays.{raisedNumber, raise-refuses}
+use Rattle.flat.proofs.BothWays.{side-has, raisedNumber, raise-refuses}
 
--- the word that stands for it is of a kind that is not allowed
-pub no-kind : decodeOf 0xF0000000 ≡ NotAllowed
+-- the word that stands for it is of a kind that neither side has
+pub no-kind : (side : Side) → decodeFor side 0xF0000000 ≡ decoded.NotAllowed
 unfolding decodeOf bits
-no-kind = refl
+no-kind Source = refl
+no-kind Sink = refl
 
 -- a flat object of a known kind with a field too wide
 pub record TooWideOf (r : Raised) : Type 0 where
@@ -47,25 +51,28 @@ wide-of-a-kind Unknown = (
 )
 
 -- the word of an object decodes to an object, and so does the zero that stands for one that is too wide
-zero-decodes : decodedNumber (decodeOf 0) ≡ 0
+zero-decodes : (side : Side) → decodedNumber (decodeFor side 0) ≡ 0
 unfolding decodeOf bits
-zero-decodes = refl
+zero-decodes Source = refl
+zero-decodes Sink = refl
 
-word-known : (o : Object) → decodedNumber (decodeOf (wordIn (encodeOf o))) ≡ 0
-word-known o = go (encodeOf o) refl where
-  go : (e : Encoded) → encodeOf o ≡ e → decodedNumber (decodeOf (wordIn e)) ≡ 0
-  go (Word w) q = ap decodedNumber (encode-decode o w q)
-  go TooWide q = zero-decodes
+word-known : (side : Side) (o : Object) → allowedFor side (decoded.Known o) ≡ decoded.Known o → decodedNumber (decodeFor side (wordIn (encodeOf o))) ≡ 0
+word-known side o has = go (encodeOf o) refl where
+  go : (e : Encoded) → encodeOf o ≡ e → decodedNumber (decodeFor side (wordIn e)) ≡ 0
+  go (Word w) q = ap (λ (d : Decoded). decodedNumber (allowedFor side d)) (encode-decode o w q) ∙ ap decodedNumber has
+  go TooWide q = zero-decodes side
 
-word-number : (r : Raised) → decodedNumber (decodeOf (wordIn (encodedRaised r))) ≡ raisedNumber r
-word-number (Known o) = word-known o
-word-number Unknown = ap decodedNumber no-kind
+word-number : (side : Side) (x : FlatObject) → decodedNumber (decodeFor side (wordIn (encodedRaised (raisedFor side x)))) ≡ raisedNumber (raisedFor side x)
+word-number side x = go (raisedFor side x) refl where
+  go : (r : Raised) → raisedFor side x ≡ r → decodedNumber (decodeFor side (wordIn (encodedRaised r))) ≡ raisedNumber r
+  go (Known o) q = word-known side o (side-has side x o q)
+  go Unknown q = ap decodedNumber (no-kind side)
 
--- 12 applies to the word exactly where the kind number is above 4
-pub twelve-of-no-kind : (x : FlatObject) → decodedNumber (decodeOf (wordIn (encodedRaised (raisedOf x)))) ≡ 12 ↔ (4 < x .kind)
-twelve-of-no-kind x = (
-  (λ e. raise-refuses x .0 (sym (word-number (raisedOf x)) ∙ e)),
-  (λ h. word-number (raisedOf x) ∙ raise-refuses x .1 h),
+-- 12 applies to the word exactly where the kind number is none that the side has
+pub twelve-of-no-kind : (side : Side) (x : FlatObject) → decodedNumber (decodeFor side (wordIn (encodedRaised (raisedFor side x)))) ≡ 12 ↔ (lastKind side < x .kind)
+twelve-of-no-kind side x = (
+  (λ e. raise-refuses side x .0 (sym (word-number side x) ∙ e)),
+  (λ h. word-number side x ∙ raise-refuses side x .1 h),
 )
 
 -- 11 applies where the first is of no kind
@@ -77,6 +84,6 @@ pub unknown-is : (r : Raised) → raisedNumber r ≡ 12 → r ≡ Unknown
 unknown-is (Known o) e = let z : _≡_ {A = ℕ} 0 12 = e in absurd (omega arith)
 unknown-is Unknown e = refl
 
-pub eleven-of-no-kind : (x : FlatObject) → 4 < x .kind → isFixed5V (wordIn (encodedRaised (raisedOf x))) ≡ false
-eleven-of-no-kind x h =
-    ap (λ (r : Raised). isFixed5V (wordIn (encodedRaised r))) (unknown-is (raisedOf x) (raise-refuses x .1 h)) ∙ no-kind-not-5-V
+pub eleven-of-no-kind : (side : Side) (x : FlatObject) → lastKind side < x .kind → isFixed5V (wordIn (encodedRaised (raisedFor side x))) ≡ false
+eleven-of-no-kind side x h =
+    ap (λ (r : Raised). isFixed5V (wordIn (encodedRaised r))) (unknown-is (raisedFor side x) (raise-refuses side x .1 h)) ∙ no-kind-not-5-V

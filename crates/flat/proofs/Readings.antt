@@ -2,26 +2,28 @@
 -- Assumes nothing.
 use mathlib.Core.Path.{_≡_, refl, sym, ap, _∙_}
 use mathlib.Core.Bool.{Bool, true, false, cond}
-use mathlib.Core.List.{List, [], _∷_}
+use mathlib.Core.List.{List}
 use Prim.Native.Nat.{ℕ, _≤_}
 use native.Mathlib.Omega.{arith}
 use borrow.Author.Tests.{ltb-true, ltb-false}
 use lib.Dec.{ltb}
 use lib.ListN.{getD}
 use Rattle.objects.specs.Decode.{decodeOf}
-use Rattle.verdicts.specs.Refusals.{Refusal, refusal, firstOf, success}
+use Rattle.verdicts.specs.Refusals.{success}
+use Rattle.verdicts.proofs.First.{by-first}
+use Rattle.objects.specs.declared.Side.{Side}
 use Rattle.lists.specs.declared.Words.{Words}
 use Rattle.lists.specs.declared.Place.{Place}
 use Rattle.lists.specs.declared.Objects.{Objects}
 use Rattle.lists.specs.declared.Reading.{Reading}
 use Rattle.lists.specs.Seven.{placeTo, sevenTo}
-use Rattle.lists.specs.Shape.{shapeRefusals}
-use Rattle.lists.specs.Reading.{emptyPlace, noObjects, objectOf, placeOf, readRefused, readOf}
+use Rattle.lists.specs.Shape.{refusalsFor}
+use Rattle.lists.specs.Reading.{emptyPlace, noObjects, objectOf, placeOf, readRefused, readFor}
 use Rattle.lists.proofs.Sevens.{none-filled, filled-at, past-filled}
 use Rattle.lists.proofs.Readings.{readAs, read-empty}
 use Rattle.flat.specs.declared.FlatObject.{FlatObject}
 use Rattle.flat.specs.Flat.{flatOf}
-use Rattle.flat.specs.Reading.{emptyFlat, flatAt, flatObjects, flatReadingOf}
+use Rattle.flat.specs.Reading.{emptyFlat, flatAt, flatObjects, flatReadingFor}
 use Rattle.flat.specs.Kept.{noFlat}
 
 -- an empty place is flattened to an empty one
@@ -32,9 +34,6 @@ empty-flat = refl
 no-flat : flatObjects noObjects ≡ noFlat
 unfolding sevenTo flatOf
 no-flat = refl
-
-pub none-flattened : noFlat ≡ flatObjects noObjects
-none-flattened = sym no-flat
 
 -- the object of a word, flattened: what reading gives at its place
 abbrev pub flatWord : List ℕ → ℕ → FlatObject
@@ -49,43 +48,35 @@ words-flattened ws n = rw (one 0, one 1, one 2, one 3, one 4, one 5, one 6) wher
     go true = refl
     go false = sym empty-flat
 
--- what holds of each refusal and of the answer holds of the first of them
-by-first : {A : Type 0} (P : A → Type 0) (refused : ℕ → ℕ → A) (rs : List Refusal) (answer : A) → ((n p : ℕ) → P (refused n p)) → P answer
-    → P (firstOf refused rs answer)
-unfolding firstOf
-by-first P refused [] answer r a = a
-by-first P refused (refusal true n p ∷ rs) answer r a = r n p
-by-first P refused (refusal false n p ∷ rs) answer r a = by-first P refused rs answer r a
-
 abbrev EmptyPast : Objects → Type 0
 EmptyPast o = (k : ℕ) → o .count ≤ k → getD (o .places) k emptyPlace ≡ emptyPlace
 
-module _ (l : Words) where
-  pub flat-read-verdict : flatReadingOf l .verdict ≡ readOf l .verdict
-  unfolding flatReadingOf
+module _ (side : Side) (l : Words) where
+  pub flat-read-verdict : flatReadingFor side l .verdict ≡ readFor side l .verdict
+  unfolding flatReadingFor
   flat-read-verdict = refl
 
-  pub flat-read-list : flatReadingOf l .list ≡ flatObjects (readOf l .list)
-  unfolding flatReadingOf
+  pub flat-read-list : flatReadingFor side l .list ≡ flatObjects (readFor side l .list)
+  unfolding flatReadingFor
   flat-read-list = refl
 
   -- "On a refusal everything else in the answer is zero, a list is empty"
-  pub flat-read-empty : (flatReadingOf l .verdict ≡ success → ⊥) → flatReadingOf l .list ≡ noFlat
-  flat-read-empty f = flat-read-list ∙ ap flatObjects (read-empty l (λ z. f (flat-read-verdict ∙ z))) ∙ no-flat
+  pub flat-read-empty : (flatReadingFor side l .verdict ≡ success → ⊥) → flatReadingFor side l .list ≡ noFlat
+  flat-read-empty f = flat-read-list ∙ ap flatObjects (read-empty side l (λ z. f (flat-read-verdict ∙ z))) ∙ no-flat
 
-  read-past : EmptyPast (readOf l .list)
-  unfolding readOf
+  read-past : EmptyPast (readFor side l .list)
+  unfolding readFor
   read-past =
-      by-first (λ (r : Reading). EmptyPast (r .list)) readRefused (shapeRefusals l) (readAs l)
+      by-first (λ (r : Reading). EmptyPast (r .list)) readRefused (refusalsFor side l) (readAs l)
       (λ n p k h. ap (λ (ps : List Place). getD ps k emptyPlace) (none-filled (placeOf (l .words)) emptyPlace) ∙ past-filled (placeOf (l .words)) emptyPlace 0 k h)
       (λ k h. past-filled (placeOf (l .words)) emptyPlace (l .count) k h)
 
   -- "in a list of objects such a place is a fixed object with all its fields zero"
-  pub flat-read-past : (k : ℕ) → flatReadingOf l .list .count ≤ k → getD (flatReadingOf l .list .places) k emptyFlat ≡ emptyFlat
-  unfolding flatReadingOf
-  flat-read-past k h = go (ltb k 7) refl where
+  pub empty-past : (k : ℕ) → flatReadingFor side l .list .count ≤ k → getD (flatReadingFor side l .list .places) k emptyFlat ≡ emptyFlat
+  unfolding flatReadingFor
+  empty-past k h = go (ltb k 7) refl where
     f : ℕ → FlatObject
-    f = flatAt (readOf l .list .places)
+    f = flatAt (readFor side l .list .places)
 
     go : (b : Bool) → ltb k 7 ≡ b → getD (sevenTo f emptyFlat 7) k emptyFlat ≡ emptyFlat
     go true e =

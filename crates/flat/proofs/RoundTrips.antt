@@ -1,128 +1,102 @@
--- A list of objects that is flattened is written as the list itself is; a flat list that is written reads back to its own fields.
+-- Both round trips of a flat list, of either side: one that is read is written back to its words, and one that is written reads back to what
+-- its side keeps.
 -- Assumes nothing.
 use mathlib.Core.Path.{_≡_, refl, sym, ap, _∙_, subst}
-use mathlib.Core.Bool.{Bool, true, false, cond}
+use mathlib.Core.Bool.{true, false}
 use mathlib.Core.List.{List}
-use Prim.Native.Nat.{ℕ, _≤_, _<_}
-use native.Mathlib.Omega.{arith}
-use borrow.Author.Tests.{ltb-true, ltb-false}
-use lib.Dec.{eqb, ltb}
+use Prim.Native.Nat.{ℕ, _<_}
+use lib.Dec.{eqb}
 use lib.ListN.{getD}
-use Rattle.verdicts.specs.Refusals.{eachPlace, success, NoneApply}
-use Rattle.verdicts.proofs.First.{none-right}
+use Rattle.verdicts.specs.Refusals.{success, NoneApply}
+use Rattle.objects.specs.declared.Side.{Side}
+use Rattle.objects.specs.declared.Side.the-variants.{Source, Sink}
 use Rattle.objects.specs.declared.Object.{Object}
-use Rattle.objects.specs.Decode.{decodeOf, decodedNumber}
-use Rattle.objects.specs.Encode.{encodeOf}
-use Rattle.lists.specs.declared.Place.{Place}
-use Rattle.lists.specs.declared.Objects.{Objects}
-use Rattle.lists.specs.Seven.{placeTo, sevenTo}
-use Rattle.lists.specs.Shape.{badCount, shapeRefusals}
-use Rattle.lists.specs.Reading.{emptyPlace}
-use Rattle.lists.specs.Writing.{wideRows, wordIn, encodedAt, wordsOf, writeRefusals, writeOf}
-use Rattle.lists.specs.Kept.{keptObjects}
-use Rattle.lists.proofs.Sevens.{filled-at, past-filled}
+use Rattle.objects.specs.declared.Decoded.{Decoded}
+use Rattle.objects.specs.declared.Decoded.the-variants as decoded
+use Rattle.objects.specs.declared.Encoded.{Encoded}
+use Rattle.objects.specs.declared.Encoded.the-variants.{Word}
+use Rattle.objects.specs.Decode.{decodeOf, decodeFor, allowedFor, decodedNumber}
+use Rattle.objects.proofs.RoundTrip.{encode-decode}
+use Rattle.objects.proofs.Sides.{known-for, sink-bare}
+use Rattle.lists.specs.declared.Words.{Words}
+use Rattle.lists.specs.Shape.{refusalsFor}
+use Rattle.lists.specs.Reading.{objectOf, objectsOf}
+use Rattle.lists.specs.Writing.{wordIn, writtenFrom}
+use Rattle.lists.specs.Kept.{keptWords, Words32}
+use Rattle.lists.proofs.Sevens.{filled-at}
 use Rattle.lists.proofs.Shapes.{count-high, word-passes}
-use Rattle.lists.proofs.Writings.{write-miscounted, write-clear}
-use Rattle.lists.proofs.Unread.{same-made, same-written, same-refusals}
-use Rattle.lists.proofs.RoundTrips.{write-read}
+use Rattle.lists.proofs.Readings.{read-clear}
+use Rattle.lists.proofs.Writings.{write-clear}
+use Rattle.lists.proofs.RoundTrips.{taken-made, made-taken, made-clear, word-known, word-clear, word-back}
 use Rattle.flat.specs.declared.FlatObject.{FlatObject}
 use Rattle.flat.specs.declared.FlatObjects.{FlatObjects}
 use Rattle.flat.specs.declared.FlatReading.{FlatReading}
 use Rattle.flat.specs.declared.Raised.{Raised}
 use Rattle.flat.specs.declared.Raised.the-variants.{Known, Unknown}
-use Rattle.flat.specs.Flat.{flatOf, raisedOf, raisedSays, ownFields}
-use Rattle.flat.specs.Reading.{emptyFlat, flatAt, flatObjects, flatReading, flatReadingOf}
-use Rattle.flat.specs.Writing.{raisedAt, encodedRaised, encodedFlatAt, flatWords, flatWriteRefusals, flatWriteOf}
+use Rattle.flat.specs.Flat.{flatOf, raisedFor, raisedSays, ownFor}
+use Rattle.flat.specs.Reading.{emptyFlat, flatObjects, flatReading, flatReadingFor}
+use Rattle.flat.specs.Writing.{raisedAt, encodedRaised, encodedFlatAt, flatWords, flatWriteRefusals, flatWriteFor}
 use Rattle.flat.specs.Kept.{keptFlat}
-use Rattle.flat.proofs.BothWays.{raise-flat, flat-raise}
-use Rattle.flat.proofs.Readings.{empty-flat}
+use Rattle.flat.proofs.BothWays.{raise-flat, raise-flat-for, flat-raise-for}
+use Rattle.flat.proofs.Readings.{words-flattened}
 use Rattle.flat.proofs.NoKind.{no-kind}
 
--- ---- what is flattened is written as it is
+abbrev takenFlat : ℕ → FlatObject
+takenFlat w = flatOf (objectOf (decodeOf w))
 
-place-back : (o : Objects) → o .count ≤ 7 → (k : ℕ) → k < o .count → raisedAt (flatObjects o .places) k ≡ Known (getD (o .places) k emptyPlace .object)
-place-back o high k h =
-    ap raisedOf (filled-at (flatAt (o .places)) emptyFlat 7 k (omega arith) (omega arith)) ∙ raise-flat (getD (o .places) k emptyPlace .object)
+abbrev madeFlat : Side → FlatObject → Encoded
+madeFlat side x = encodedRaised (raisedFor side x)
 
-pub flat-written : (o : Objects) → flatWriteOf (flatObjects o) ≡ writeOf o
-flat-written o = go (badCount (o .count)) refl where
-  go : (b : Bool) → badCount (o .count) ≡ b → flatWriteOf (flatObjects o) ≡ writeOf o
-  go true e = write-miscounted (encodedFlatAt (flatObjects o .places)) (o .count) e ∙ sym (write-miscounted (encodedAt (o .places)) (o .count) e)
-  go false e =
-      same-written (encodedFlatAt (flatObjects o .places)) (encodedAt (o .places)) (o .count)
-      (λ k h. ap encodedRaised (place-back o (count-high (o .count) e) k h))
+-- the object of a word is what is raised of it
+raised-back : (side : Side) (l : Words) → NoneApply (refusalsFor side l) → (k : ℕ) → k < l .count
+    → raisedFor side (takenFlat (getD (l .words) k 0)) ≡ Known (objectOf (decodeFor side (getD (l .words) k 0)))
+raised-back Source l x k h = raise-flat (objectOf (decodeOf (getD (l .words) k 0)))
+raised-back Sink l x k h =
+    let w = getD (l .words) k 0 in
+    let o = objectOf (decodeFor Sink w) in
+    let q = word-known Sink l x k h in
+    let same = known-for Sink (decodeOf w) o q in
+    ap (λ (d : Decoded). raisedFor Sink (flatOf (objectOf d))) same
+    ∙ raise-flat-for o (sink-bare (eqb k 0) w o q (word-clear Sink l x k h)) (sym (ap (allowedFor Sink) same) ∙ q)
 
--- ---- what is written reads back
+module _ (side : Side) (l : Words) (typed : Words32 l) (x : NoneApply (refusalsFor side l)) where
+  flat-back : (k : ℕ) → k < l .count → madeFlat side (takenFlat (getD (l .words) k 0)) ≡ Word (getD (l .words) k 0)
+  flat-back k h = ap encodedRaised (raised-back side l x k h) ∙ word-back side l x k h typed
 
--- seven places that agree with another's up to its count, and are blank past it
-filled-to : {A : Type 0} (f g : ℕ → A) (blank : A) (n : ℕ) → ((k : ℕ) → k < n → f k ≡ g k) → ((k : ℕ) → n ≤ k → f k ≡ blank)
-    → sevenTo f blank 7 ≡ sevenTo g blank n
-unfolding sevenTo
-filled-to f g blank n agree past = rw (one 0, one 1, one 2, one 3, one 4, one 5, one 6) where
-  one : (k : ℕ) → f k ≡ placeTo g blank n k
-  one k = go (ltb k n) refl where
-    go : (b : Bool) → ltb k n ≡ b → f k ≡ cond b (g k) blank
-    go true e = agree k (ltb-true k n e)
-    go false e = past k (ltb-false k n e)
+  pub flat-read-write : flatWriteFor side (flatObjects (objectsOf l)) ≡ record { verdict = success; list = keptWords l }
+  flat-read-write =
+      ap (λ (fs : List FlatObject). writtenFrom side (encodedFlatAt side fs) (l .count)) (sym (words-flattened (l .words) (l .count)))
+      ∙ taken-made side emptyFlat takenFlat (madeFlat side) l x flat-back
 
 -- the object raised; a list that is written has one in every place that counts
 abbrev objectIn : Raised → Object
 objectIn r = raisedSays r .1
 
--- places past the count are empty
-abbrev raisedObjects : FlatObjects → Objects
-raisedObjects f =
-    record { places = sevenTo (λ (k : ℕ). record { object = objectIn (raisedAt (f .places) k) }) emptyPlace (f .count); count = f .count }
-
 -- where 12 does not apply, there is an object
-has-kind : (r : Raised) → eqb (decodedNumber (decodeOf (wordIn (encodedRaised r)))) 12 ≡ false → r ≡ Known (objectIn r)
-has-kind (Known o) e = refl
-has-kind Unknown e = let z : true ≡ false = sym (ap (λ (d : _). eqb (decodedNumber d) 12) no-kind) ∙ e in cc
+has-kind : (side : Side) (r : Raised) → eqb (decodedNumber (decodeFor side (wordIn (encodedRaised r)))) 12 ≡ false → r ≡ Known (objectIn r)
+has-kind side (Known o) e = refl
+has-kind side Unknown e = let z : true ≡ false = sym (ap (λ (d : Decoded). eqb (decodedNumber d) 12) (no-kind side)) ∙ e in cc
 
-module _ (f : FlatObjects) (x : NoneApply (flatWriteRefusals f)) where
-  high : f .count ≤ 7
-  high = count-high (f .count) (x .0)
-
-  known : (k : ℕ) → k < f .count → raisedAt (f .places) k ≡ Known (objectIn (raisedAt (f .places) k))
+module _ (side : Side) (f : FlatObjects) (x : NoneApply (flatWriteRefusals side f)) where
+  known : (k : ℕ) → k < f .count → raisedAt side (f .places) k ≡ Known (objectIn (raisedAt side (f .places) k))
   known k h =
-      has-kind (raisedAt (f .places) k)
-      (sym (ap (λ (w : ℕ). eqb (decodedNumber (decodeOf w)) 12) (filled-at (λ (j : ℕ). wordIn (encodedFlatAt (f .places) j)) 0 (f .count) k high h))
-      ∙ word-passes (flatWords f) (none-right (eachPlace (wideRows (encodedFlatAt (f .places))) (f .count)) (shapeRefusals (flatWords f)) (x .1)) k h .0)
+      has-kind side (raisedAt side (f .places) k)
+      (sym (ap (λ (w : ℕ). eqb (decodedNumber (decodeFor side w)) 12) (filled-at (λ (j : ℕ). wordIn (encodedFlatAt side (f .places) j)) 0 (f .count) k (count-high (f .count) (x .0)) h))
+      ∙ word-passes side (flatWords side f) (made-clear side (encodedFlatAt side (f .places)) (f .count) x) k h .0)
 
-  raised-there : (k : ℕ) → k < f .count → getD (raisedObjects f .places) k emptyPlace ≡ record { object = objectIn (raisedAt (f .places) k) }
-  raised-there k h = filled-at (λ (j : ℕ). record { object = objectIn (raisedAt (f .places) j) }) emptyPlace (f .count) k high h
+  own-back : (k w : ℕ) → k < f .count → encodedFlatAt side (f .places) k ≡ Word w → takenFlat w ≡ ownFor side (getD (f .places) k emptyFlat)
+  own-back k w h e =
+      ap (λ (d : Decoded). flatOf (objectOf d)) (encode-decode (objectIn (raisedAt side (f .places) k)) w (sym (ap encodedRaised (known k h)) ∙ e))
+      ∙ flat-raise-for side (getD (f .places) k emptyFlat) (objectIn (raisedAt side (f .places) k)) (known k h)
 
-  -- so the flat list is written as its objects are
-  agree : (k : ℕ) → k < f .count → encodedFlatAt (f .places) k ≡ encodedAt (raisedObjects f .places) k
-  agree k h = ap encodedRaised (known k h) ∙ sym (ap (λ (p : Place). encodeOf (p .object)) (raised-there k h))
-
-  same-words : flatWords f ≡ wordsOf (raisedObjects f)
-  same-words = same-made (encodedFlatAt (f .places)) (encodedAt (raisedObjects f .places)) (f .count) agree
-
-  clear : NoneApply (writeRefusals (raisedObjects f))
-  clear = subst NoneApply (same-refusals (encodedFlatAt (f .places)) (encodedAt (raisedObjects f .places)) (f .count) agree) x
-
-  -- each place that counts is flattened to its own fields
-  own-back : (k : ℕ) → k < f .count → flatAt (keptObjects (raisedObjects f) .places) k ≡ ownFields (getD (f .places) k emptyFlat)
-  own-back k h =
-      ap (λ (p : Place). flatOf (p .object))
-      (filled-at (λ (j : ℕ). getD (raisedObjects f .places) j emptyPlace) emptyPlace (f .count) k high h ∙ raised-there k h)
-      ∙ flat-raise (getD (f .places) k emptyFlat) (objectIn (raisedAt (f .places) k)) (known k h)
-
-  past-back : (k : ℕ) → f .count ≤ k → flatAt (keptObjects (raisedObjects f) .places) k ≡ emptyFlat
-  past-back k h =
-      ap (λ (p : Place). flatOf (p .object)) (past-filled (λ (j : ℕ). getD (raisedObjects f .places) j emptyPlace) emptyPlace (f .count) k h)
-      ∙ empty-flat
-
-  pub flat-write-read : flatReadingOf (flatWords f) ≡ record { verdict = success; list = keptFlat f }
-  unfolding flatReadingOf
+  pub flat-write-read : flatReadingFor side (flatWords side f) ≡ record { verdict = success; list = keptFlat side f }
+  unfolding flatReadingFor
   flat-write-read =
-      ap flatReadingOf same-words
-      ∙ ap flatReading (write-read (raisedObjects f) clear)
-      ∙ ap reading (filled-to (flatAt (keptObjects (raisedObjects f) .places)) (λ (k : ℕ). ownFields (getD (f .places) k emptyFlat)) emptyFlat (f .count) own-back past-back)
+      ap flatReading (read-clear side (flatWords side f) (made-clear side (encodedFlatAt side (f .places)) (f .count) x))
+      ∙ ap reading (sym (words-flattened (flatWords side f .words) (f .count)) ∙ made-taken side emptyFlat takenFlat (madeFlat side) (ownFor side) (f .places) (f .count) x own-back)
     where
       reading : List FlatObject → FlatReading
       reading fs = record { verdict = success; list = record { places = fs; count = f .count } }
 
-  pub flat-write-is : flatWriteOf f ≡ record { verdict = success; list = flatWords f }
-  flat-write-is = write-clear (encodedFlatAt (f .places)) (f .count) x
+  pub flat-write-is : flatWriteFor side f ≡ record { verdict = success; list = flatWords side f }
+  flat-write-is = write-clear side (encodedFlatAt side (f .places)) (f .count) x

@@ -9,6 +9,8 @@ use Rattle.steps.specs.declared.Mv100.{Mv100}
 use Rattle.steps.specs.declared.Ma10.{Ma10}
 use Rattle.steps.specs.declared.Ma50.{Ma50}
 use Rattle.steps.specs.declared.Mw250.{Mw250}
+use Rattle.objects.specs.declared.Side.{Side}
+use Rattle.objects.specs.declared.Side.the-variants.{Source, Sink}
 use Rattle.objects.specs.declared.Object.{Object}
 use Rattle.objects.specs.declared.Object.the-variants.{Fixed, Battery, Variable, Pps, Avs}
 use Rattle.objects.specs.Decode.{zeroObject}
@@ -75,6 +77,22 @@ raisedBy (suc (suc (suc (suc (suc k))))) x = Unknown
 unfoldable pub raisedOf : FlatObject → Raised
 raisedOf x = raisedBy (x .kind) x
 
+-- in the list of a sink: "4 is not a sink's kind", and "Peak current and power limited are fields that no sink object has: they are not
+-- looked at" (STATEMENT, "Shape of a sink list")
+abbrev pub sinkRaisedBy : ℕ → FlatObject → Raised
+sinkRaisedBy zero x = Known (Fixed (x .flags) 0 (x .volts) (x .current))
+sinkRaisedBy (suc zero) x = Known (Battery (x .max) (x .min) (x .power))
+sinkRaisedBy (suc (suc zero)) x = Known (Variable (x .max) (x .min) (x .current))
+sinkRaisedBy (suc (suc (suc zero))) x = Known (Pps 0 (x .max100) (x .min100) (x .current50))
+sinkRaisedBy (suc (suc (suc (suc k)))) x = Unknown
+
+unfoldable pub sinkRaised : FlatObject → Raised
+sinkRaised x = sinkRaisedBy (x .kind) x
+
+abbrev pub raisedFor : Side → FlatObject → Raised
+raisedFor Source x = raisedOf x
+raisedFor Sink x = sinkRaised x
+
 -- What each answer says: its refusal number, and the object. 12: "a kind that is not allowed". "On a refusal everything else in the
 -- answer is zero".
 abbrev pub raisedSays : Raised → ℕ × Object
@@ -85,8 +103,14 @@ raisedSays Unknown = (12, zeroObject)
 abbrev pub flatSays : FlatObject → ℕ × Object
 flatSays x = cond (ltb 4 (x .kind)) (12, zeroObject) (0, raisedSays (raisedOf x) .1)
 
--- ---- a flat object with its own fields alone: the others are zero
+-- ---- no contract cites these
 
+-- "0 fixed, 1 battery, 2 variable, 3 PPS, 4 AVS"; of a sink "4 is not a sink's kind"
+abbrev pub lastKind : Side → ℕ
+lastKind Source = 4
+lastKind Sink = 3
+
+-- a flat object with its own fields alone: the others are zero
 abbrev pub ownBy : ℕ → FlatObject → FlatObject
 ownBy zero x = flatFixed (x .flags) (x .peak) (x .volts) (x .current)
 ownBy (suc zero) x = flatBattery (x .max) (x .min) (x .power)
@@ -97,3 +121,13 @@ ownBy (suc (suc (suc (suc (suc k))))) x = x
 
 abbrev pub ownFields : FlatObject → FlatObject
 ownFields x = ownBy (x .kind) x
+
+-- a flat object without what no sink has
+abbrev pub bareFlat : FlatObject → FlatObject
+bareFlat x =
+    record { kind = x .kind; flags = x .flags; peak = 0; limited = 0; volts = x .volts; max = x .max; min = x .min; power = x .power; current = x .current; max100 = x .max100; min100 = x .min100; current50 = x .current50; low = x .low; high = x .high }
+
+-- what each side keeps of a flat object
+abbrev pub ownFor : Side → FlatObject → FlatObject
+ownFor Source x = ownFields x
+ownFor Sink x = ownFields (bareFlat x)

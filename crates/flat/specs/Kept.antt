@@ -2,13 +2,14 @@
 -- Assumes nothing.
 use Prim.Native.Nat.{ℕ}
 use lib.ListN.{getD, replicate}
+use Rattle.objects.specs.declared.Side.{Side}
 use Rattle.lists.specs.Seven.{sevenTo}
 use Rattle.flat.specs.declared.FlatObjects.{FlatObjects}
-use Rattle.flat.specs.Flat.{ownFields}
+use Rattle.flat.specs.Flat.{ownFor}
 use Rattle.flat.specs.Reading.{emptyFlat}
 
-abbrev pub keptFlat : FlatObjects → FlatObjects
-keptFlat f = record { places = sevenTo (λ (k : ℕ). ownFields (getD (f .places) k emptyFlat)) emptyFlat (f .count); count = f .count }
+abbrev pub keptFlat : Side → FlatObjects → FlatObjects
+keptFlat side f = record { places = sevenTo (λ (k : ℕ). ownFor side (getD (f .places) k emptyFlat)) emptyFlat (f .count); count = f .count }
 
 abbrev pub noFlat : FlatObjects
 noFlat = record { places = replicate 7 emptyFlat; count = 0 }

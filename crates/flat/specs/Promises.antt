@@ -2,6 +2,7 @@
 -- theorems over them.
 -- Assumes nothing.
 use mathlib.Core.Path.{_≡_}
+use Rattle.objects.specs.declared.Side.{Side}
 use Rattle.objects.specs.declared.Object.{Object}
 use Rattle.lists.specs.declared.Words.{Words}
 use Rattle.lists.specs.declared.Listing.{Listing}
@@ -10,8 +11,8 @@ use Rattle.flat.specs.declared.FlatObjects.{FlatObjects}
 use Rattle.flat.specs.declared.FlatReading.{FlatReading}
 use Rattle.flat.specs.declared.Raised.{Raised}
 use Rattle.flat.specs.Flat.{flatOf, raisedSays, flatSays}
-use Rattle.flat.specs.Reading.{flatReadingOf}
-use Rattle.flat.specs.Writing.{flatWriteOf}
+use Rattle.flat.specs.Reading.{flatReadingFor, flatReadingOf}
+use Rattle.flat.specs.Writing.{flatWriteFor, flatWriteOf}
 
 abbrev pub Flattens : Object → FlatObject → Type 0
 Flattens o r = r ≡ flatOf o
@@ -19,8 +20,14 @@ Flattens o r = r ≡ flatOf o
 abbrev pub Raises : FlatObject → Raised → Type 0
 Raises x r = raisedSays r ≡ flatSays x
 
+abbrev pub FlatReadsFor : Side → Words → FlatReading → Type 0
+FlatReadsFor side l r = r ≡ flatReadingFor side l
+
 abbrev pub FlatReads : Words → FlatReading → Type 0
 FlatReads l r = r ≡ flatReadingOf l
+
+abbrev pub FlatWritesFor : Side → FlatObjects → Listing → Type 0
+FlatWritesFor side f r = r ≡ flatWriteFor side f
 
 abbrev pub FlatWrites : FlatObjects → Listing → Type 0
 FlatWrites f r = r ≡ flatWriteOf f

@@ -1,14 +1,17 @@
--- Reading a list as flat objects (STATEMENT, "Lists in hand"): what `lists` reads, each place flattened.
+-- Reading a list as flat objects (STATEMENT, "Lists in hand", and of a sink "Shape of a sink list"): what `lists` reads,
+-- each place flattened.
 -- Assumes nothing.
 use mathlib.Core.List.{List}
 use Prim.Native.Nat.{ℕ}
 use lib.ListN.{getD}
+use Rattle.objects.specs.declared.Side.{Side}
+use Rattle.objects.specs.declared.Side.the-variants.{Source}
 use Rattle.lists.specs.declared.Words.{Words}
 use Rattle.lists.specs.declared.Place.{Place}
 use Rattle.lists.specs.declared.Objects.{Objects}
 use Rattle.lists.specs.declared.Reading.{Reading}
 use Rattle.lists.specs.Seven.{sevenTo}
-use Rattle.lists.specs.Reading.{emptyPlace, readOf}
+use Rattle.lists.specs.Reading.{emptyPlace, readFor}
 use Rattle.flat.specs.declared.FlatObject.{FlatObject}
 use Rattle.flat.specs.declared.FlatObjects.{FlatObjects}
 use Rattle.flat.specs.declared.FlatReading.{FlatReading}
@@ -28,5 +31,8 @@ flatObjects o = record { places = sevenTo (flatAt (o .places)) emptyFlat 7; coun
 abbrev pub flatReading : Reading → FlatReading
 flatReading r = record { verdict = r .verdict; list = flatObjects (r .list) }
 
-unfoldable pub flatReadingOf : Words → FlatReading
-flatReadingOf l = flatReading (readOf l)
+unfoldable pub flatReadingFor : Side → Words → FlatReading
+flatReadingFor side l = flatReading (readFor side l)
+
+abbrev pub flatReadingOf : Words → FlatReading
+flatReadingOf l = flatReadingFor Source l

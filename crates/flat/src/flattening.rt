@@ -1,4 +1,6 @@
 // One object, both ways: a kind has its own fields, and the others are zero or not read.
+ghost use Rattle.flat.specs.Flat.{raisedSays, raisedFor, sinkRaised};
+ghost use mathlib.Core.Path.{_≡_};
 ghost use Rattle.flat.specs.Promises.{Flattens, Raises};
 use crate::EMPTY_FLAT;
 use crate::FlatObject;
@@ -9,6 +11,7 @@ use crate::KIND_PPS;
 use crate::KIND_VARIABLE;
 use crate::Raised;
 use objects::Object;
+use objects::Side;
 
 // An object as a flat one: the fields of its kind, and all others zero. Nothing is refused.
 pub fn flatten(o: Object) -> FlatObject
@@ -116,5 +119,28 @@ pub fn raise(flat: FlatObject) -> Raised
             })
         }
         _ => Raised::Unknown,
+    }
+}
+
+// The object of a flat one in the list of a sink, which has no AVS, no peak current and no power limited.
+fn raise_sink(flat: FlatObject) -> Raised
+    ensures { λ r. ⌜ raisedSays r ≡ raisedSays (sinkRaised flat) ⌝ }
+{
+    if flat.kind == KIND_AVS {
+        return Raised::Unknown;
+    }
+    let mut own = flat;
+    own.peak = 0;
+    own.limited = 0;
+    raise(own)
+}
+
+// The object of a flat one in a list of this side. `Unknown` where the kind number is none that the side has.
+pub fn raise_for(side: Side, flat: FlatObject) -> Raised
+    ensures { λ r. ⌜ raisedSays r ≡ raisedSays (raisedFor side flat) ⌝ }
+{
+    match side {
+        Side::Source => raise(flat),
+        Side::Sink => raise_sink(flat),
     }
 }

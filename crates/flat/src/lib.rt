@@ -1,5 +1,5 @@
 // Objects as C takes them. `objects::Object` is an enum with data, which no C struct is: here is one struct for all five
-// kinds, and the lists of `lists` are read and written with it.
+// kinds, and the lists of `lists` are read and written with it, those of a sink too.
 mod flattening;
 mod reading;
 mod writing;
@@ -8,6 +8,7 @@ pub use flattening::flatten;
 pub use flattening::raise;
 use objects::Object;
 pub use reading::flat_read;
+pub use reading::flat_read_for;
 use steps::Ma10;
 use steps::Ma50;
 use steps::Mv50;
@@ -15,6 +16,7 @@ use steps::Mv100;
 use steps::Mw250;
 use verdicts::Verdict;
 pub use writing::flat_write;
+pub use writing::flat_write_for;
 
 // The kind of a fixed object. The five kinds are in the order of `objects::Object`; fixed is 0, so that an empty place is all zero.
 pub const KIND_FIXED: u8 = 0;

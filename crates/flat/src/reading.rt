@@ -2,10 +2,10 @@
 ghost use mathlib.Core.Path.{_≡_};
 ghost use Prim.Native.Nat.{_≤_};
 ghost use Rattle.objects.specs.Decode.{decodeOf};
-ghost use Rattle.lists.specs.Reading.{objectOf, objectsOf};
+ghost use Rattle.lists.specs.Reading.{objectOf, objectsTo};
 ghost use Rattle.flat.specs.Flat.{flatOf};
 ghost use Rattle.flat.specs.Reading.{flatObjects};
-ghost use Rattle.flat.specs.Promises.{FlatReads};
+ghost use Rattle.flat.specs.Promises.{FlatReads, FlatReadsFor};
 use crate::EMPTY_FLAT;
 use crate::FlatObject;
 use crate::FlatObjects;
@@ -13,6 +13,7 @@ use crate::FlatReading;
 use crate::flattening::flatten;
 use lists::Words;
 use objects::Decoded;
+use objects::Side;
 
 fn flat_word(w: u32) -> FlatObject
     ensures { λ r. ⌜ r ≡ flatOf (objectOf (decodeOf w)) ⌝ }
@@ -24,12 +25,11 @@ fn flat_word(w: u32) -> FlatObject
     flatten(object)
 }
 
-// Each object in its place; empty places past the count. The decoded list is not made: a flat one is all that is wanted.
-fn flatten_words(list: Words) -> FlatObjects
-    requires { ⌜ list .count ≤ 7 ⌝ }
-    ensures { λ r. ⌜ r ≡ flatObjects (objectsOf list) ⌝ }
+// The objects of so many words, each in its place; empty places past them. The decoded list is not made: a flat one is all that is wanted.
+fn flatten_words(list: Words, count: u8) -> FlatObjects
+    requires { ⌜ count ≤ 7 ⌝ }
+    ensures { λ r. ⌜ r ≡ flatObjects (objectsTo (list .words) count) ⌝ }
 {
-    let count = list.count;
     let mut places = [EMPTY_FLAT; 7];
     let mut i: u8 = 0;
     while i < count {
@@ -42,21 +42,23 @@ fn flatten_words(list: Words) -> FlatObjects
     FlatObjects { places, count }
 }
 
-// The objects of a list, as `lists::read` gives them. Refusals: those of `lists::shape`, with their places.
-pub fn flat_read(list: Words) -> FlatReading
-    ensures { λ r. ⌜ FlatReads list r ⌝ }
+// The objects of a list of this side, as flat ones. Refusals: those of `lists::shape_for`, with their places. In a list of a sink every
+// peak current and power limited is zero, since its shape passes.
+pub fn flat_read_for(side: Side, list: Words) -> FlatReading
+    ensures { λ r. ⌜ FlatReadsFor side list r ⌝ }
 {
-    let verdict = lists::shape(list);
-    if verdict.number != verdicts::SUCCESS {
-        let places = [EMPTY_FLAT; 7];
-        return FlatReading {
-            verdict,
-            list: FlatObjects { places, count: 0 },
-        };
-    }
-    let flat = flatten_words(list);
+    let shaped = lists::readable(side, list);
+    let verdict = shaped.verdict;
+    let flat = flatten_words(list, shaped.count);
     FlatReading {
         verdict,
         list: flat,
     }
+}
+
+// The objects of a list, as `lists::read` gives them. Refusals: those of `lists::shape`, with their places.
+pub fn flat_read(list: Words) -> FlatReading
+    ensures { λ r. ⌜ FlatReads list r ⌝ }
+{
+    flat_read_for(Side::Source, list)
 }

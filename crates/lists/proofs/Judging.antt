@@ -9,10 +9,12 @@ use lib.Dec.{eqb}
 use lib.ListN.{getD}
 use Rattle.verdicts.specs.declared.Verdict.{Verdict}
 use Rattle.verdicts.specs.Refusals.{Refusal, refusal, firstOf, verdict, NoneApply}
+use Rattle.objects.specs.declared.Side.{Side}
 use Rattle.objects.specs.declared.Object.{Object}
 use Rattle.objects.specs.declared.Decoded.{Decoded}
 use Rattle.objects.specs.declared.Decoded.the-variants.{Known, NotAllowed}
-use Rattle.objects.specs.Decode.{decodeOf, decodedNumber, reservedSet}
+use Rattle.objects.specs.Decode.{decodeFor, decodedNumber}
+use Rattle.objects.specs.Reserved.{reservedSet}
 use Rattle.lists.specs.declared.object_rules.Standing.{Standing}
 use Rattle.lists.specs.declared.shape_check.Judged.{Judged}
 use Rattle.lists.specs.declared.shape_check.Judged.the-variants.{Fine, Refused}
@@ -21,31 +23,31 @@ use Rattle.lists.specs.Shape.{outOfOrder, wordRefusals, wordRows}
 use Rattle.lists.specs.Reading.{objectOf}
 use Rattle.lists.specs.Judging.{judgedOf, standingOf}
 
-module _ (first : Bool) (place : ℕ) (before : Object) (w : ℕ) where
-  pub not-known : decodeOf w ≡ NotAllowed → judgedOf first place before w ≡ Refused (verdict 12 place)
+module _ (side : Side) (first : Bool) (place : ℕ) (before : Object) (w : ℕ) where
+  pub not-known : decodeFor side w ≡ NotAllowed → judgedOf side first place before w ≡ Refused (verdict 12 place)
   unfolding judgedOf firstOf
   not-known d = rw d
 
-module _ (first : Bool) (place : ℕ) (before : Object) (w : ℕ) (o : Object) (d : decodeOf w ≡ Known o) where
-  pub reserved : reservedSet o first w ≡ true → judgedOf first place before w ≡ Refused (verdict 13 place)
+module _ (side : Side) (first : Bool) (place : ℕ) (before : Object) (w : ℕ) (o : Object) (d : decodeFor side w ≡ Known o) where
+  pub reserved : reservedSet side o first w ≡ true → judgedOf side first place before w ≡ Refused (verdict 13 place)
   unfolding judgedOf firstOf
   reserved r = rw d (rw r)
 
-  pub bound : reservedSet o first w ≡ false → outOfBounds o ≡ true → judgedOf first place before w ≡ Refused (verdict 15 place)
+  pub bound : reservedSet side o first w ≡ false → outOfBounds o ≡ true → judgedOf side first place before w ≡ Refused (verdict 15 place)
   unfolding judgedOf firstOf
   bound r b = rw d (rw (r, b))
 
-  pub power : reservedSet o first w ≡ false → outOfBounds o ≡ false → over100W o ≡ true → judgedOf first place before w ≡ Refused (verdict 16 place)
+  pub power : reservedSet side o first w ≡ false → outOfBounds o ≡ false → over100W o ≡ true → judgedOf side first place before w ≡ Refused (verdict 16 place)
   unfolding judgedOf firstOf
   power r b p = rw d (rw (r, b, p))
 
-  pub order : reservedSet o first w ≡ false → outOfBounds o ≡ false → over100W o ≡ false
-      → outOfOrder first (Known before) (Known o) ≡ true → judgedOf first place before w ≡ Refused (verdict 14 place)
+  pub order : reservedSet side o first w ≡ false → outOfBounds o ≡ false → over100W o ≡ false
+      → outOfOrder first (Known before) (Known o) ≡ true → judgedOf side first place before w ≡ Refused (verdict 14 place)
   unfolding judgedOf firstOf
   order r b p q = rw d (rw (r, b, p, q))
 
-  pub fine : reservedSet o first w ≡ false → outOfBounds o ≡ false → over100W o ≡ false
-      → outOfOrder first (Known before) (Known o) ≡ false → judgedOf first place before w ≡ Fine o
+  pub fine : reservedSet side o first w ≡ false → outOfBounds o ≡ false → over100W o ≡ false
+      → outOfOrder first (Known before) (Known o) ≡ false → judgedOf side first place before w ≡ Fine o
   unfolding judgedOf firstOf
   fine r b p q = rw d (rw (r, b, p, q))
 
@@ -77,38 +79,38 @@ fine-at (refusal true n p ∷ rs) o q e = let z : _≡_ {A = ℕ} 0 1 = cc in ab
 fine-at (refusal false n p ∷ rs) o q e = let r = fine-at rs o q e in ((refl, r .0), r .1)
 
 -- the rows of a place, by the object before it
-pub rows-at : (ws : List ℕ) (k : ℕ) (before : Object) → (0 < k → decodeOf (getD ws (k - 1) 0) ≡ Known before)
-    → wordRefusals (eqb k 0) (k + 1) (Known before) (getD ws k 0) ≡ wordRows ws k
-rows-at ws zero before h = refl
-rows-at ws (suc k) before h =
-    ap (λ (d : Decoded). wordRefusals (eqb (suc k) 0) (suc k + 1) d (getD ws (suc k) 0)) (sym (h (omega arith)))
+pub rows-at : (side : Side) (ws : List ℕ) (k : ℕ) (before : Object) → (0 < k → decodeFor side (getD ws (k - 1) 0) ≡ Known before)
+    → wordRefusals side (eqb k 0) (k + 1) (Known before) (getD ws k 0) ≡ wordRows side ws k
+rows-at side ws zero before h = refl
+rows-at side ws (suc k) before h =
+    ap (λ (d : Decoded). wordRefusals side (eqb (suc k) 0) (suc k + 1) d (getD ws (suc k) 0)) (sym (h (omega arith)))
 
 -- the object before a place, which stands so; before the first place any object will do
-pub record Before (ws : List ℕ) (k : ℕ) (s : Standing) : Type 0 where
+pub record Before (side : Side) (ws : List ℕ) (k : ℕ) (s : Standing) : Type 0 where
   pub object : Object
   pub stands : standingOf object ≡ s
-  pub decoded : 0 < k → decodeOf (getD ws (k - 1) 0) ≡ Known object
+  pub decoded : 0 < k → decodeFor side (getD ws (k - 1) 0) ≡ Known object
 
-module _ (ws : List ℕ) (k : ℕ) (before : Object) (h : 0 < k → decodeOf (getD ws (k - 1) 0) ≡ Known before) where
-  pub refused-word : (v : Verdict) → judgedOf (eqb k 0) (k + 1) before (getD ws k 0) ≡ Refused v → (x : Verdict) → firstOf verdict (wordRows ws k) x ≡ v
+module _ (side : Side) (ws : List ℕ) (k : ℕ) (before : Object) (h : 0 < k → decodeFor side (getD ws (k - 1) 0) ≡ Known before) where
+  pub refused-word : (v : Verdict) → judgedOf side (eqb k 0) (k + 1) before (getD ws k 0) ≡ Refused v → (x : Verdict) → firstOf verdict (wordRows side ws k) x ≡ v
   unfolding judgedOf
   refused-word v e x =
-      subst (λ (rs : List Refusal). firstOf verdict rs x ≡ v) (rows-at ws k before h)
-      (refused-at (wordRefusals (eqb k 0) (k + 1) (Known before) (getD ws k 0)) (objectOf (decodeOf (getD ws k 0))) v e x)
+      subst (λ (rs : List Refusal). firstOf verdict rs x ≡ v) (rows-at side ws k before h)
+      (refused-at (wordRefusals side (eqb k 0) (k + 1) (Known before) (getD ws k 0)) (objectOf (decodeFor side (getD ws k 0))) v e x)
 
-  pub fine-word : (o : Object) → judgedOf (eqb k 0) (k + 1) before (getD ws k 0) ≡ Fine o → NoneApply (wordRows ws k)
+  pub fine-word : (o : Object) → judgedOf side (eqb k 0) (k + 1) before (getD ws k 0) ≡ Fine o → NoneApply (wordRows side ws k)
   unfolding judgedOf
   fine-word o e =
-      subst NoneApply (rows-at ws k before h)
-      (fine-at (wordRefusals (eqb k 0) (k + 1) (Known before) (getD ws k 0)) (objectOf (decodeOf (getD ws k 0))) o e .0)
+      subst NoneApply (rows-at side ws k before h)
+      (fine-at (wordRefusals side (eqb k 0) (k + 1) (Known before) (getD ws k 0)) (objectOf (decodeFor side (getD ws k 0))) o e .0)
 
 -- a word that has no fault of kind has an object
 pub has-object : (d : Decoded) → eqb (decodedNumber d) 12 ≡ false → d ≡ Known (objectOf d)
 has-object (Known o) e = refl
 has-object NotAllowed e = let z : true ≡ false = e in cc
 
-pub fine-object : (first : Bool) (place : ℕ) (before : Object) (w : ℕ) (o : Object) → judgedOf first place before w ≡ Fine o → decodeOf w ≡ Known o
+pub fine-object : (side : Side) (first : Bool) (place : ℕ) (before : Object) (w : ℕ) (o : Object) → judgedOf side first place before w ≡ Fine o → decodeFor side w ≡ Known o
 unfolding judgedOf
-fine-object first place before w o e =
-    let f = fine-at (wordRefusals first place (Known before) w) (objectOf (decodeOf w)) o e in
-    has-object (decodeOf w) (f .0 .0) ∙ ap Known (f .1)
+fine-object side first place before w o e =
+    let f = fine-at (wordRefusals side first place (Known before) w) (objectOf (decodeFor side w)) o e in
+    has-object (decodeFor side w) (f .0 .0) ∙ ap Known (f .1)

@@ -14,12 +14,14 @@ use Rattle.steps.specs.declared.Ma10.{Ma10}
 use Rattle.verdicts.specs.declared.Verdict.{Verdict}
 use Rattle.verdicts.specs.Refusals.{eachPlace, firstOf, verdict, success, verdictOf, NoneApply}
 use Rattle.verdicts.proofs.First.{hit, all-missed, none-at, none-all, decided, none-applied, numbered-places}
+use Rattle.objects.specs.declared.Side.{Side}
+use Rattle.objects.specs.declared.Side.the-variants.{Source}
 use Rattle.objects.specs.declared.Object.{Object}
 use Rattle.objects.specs.declared.Object.the-variants.{Fixed, Battery, Variable, Pps, Avs}
 use Rattle.objects.specs.declared.Decoded.{Decoded}
 use Rattle.objects.specs.declared.Decoded.the-variants.{Known, NotAllowed}
 use Rattle.objects.specs.Asking.{ofObject, ofAvs}
-use Rattle.objects.specs.Decode.{decodeOf}
+use Rattle.objects.specs.Decode.{decodeOf, decodeFor}
 use Rattle.lists.specs.declared.object_rules.Standing.{Standing}
 use Rattle.lists.specs.ObjectRules.{rankOf, keyOf, keysMayFollow, mayFollow}
 use Rattle.lists.specs.Shape.{outOfOrder, wordRows, avsMatches, avsDiffers, avsRows}
@@ -54,29 +56,29 @@ rises before o e = go (ltb (rankOf before) (rankOf o)) refl e where
 -- ---- the words so far
 
 -- no AVS word but the one at this place, and none at all while the ranks are lower
-pub record Alone (ws : List ℕ) (i earlier place : ℕ) : Type 0 where
-  pub only : OnlyAvs ws i place
+pub record Alone (side : Side) (ws : List ℕ) (i earlier place : ℕ) : Type 0 where
+  pub only : OnlyAvs side ws i place
   pub lower : earlier < 3 → place ≡ 0
 
-pub none-seen : (ws : List ℕ) → Alone ws 0 0 0
-none-seen ws = record { only = record { within = omega arith; others = λ k h f r. omega arith }; lower = λ h. refl }
+pub none-seen : (side : Side) (ws : List ℕ) → Alone side ws 0 0 0
+none-seen side ws = record { only = record { within = omega arith; others = λ k h f r. omega arith }; lower = λ h. refl }
 
-module _ (ws : List ℕ) (i place : ℕ) (s : Standing) (a : Alone ws i (s .rank) place) (b : Before ws i s)
-    (x : NoneApply (wordRows ws i)) (o : Object) (d : decodeOf (getD ws i 0) ≡ Known o) where
+module _ (side : Side) (ws : List ℕ) (i place : ℕ) (s : Standing) (a : Alone side ws i (s .rank) place) (b : Before side ws i s)
+    (x : NoneApply (wordRows side ws i)) (o : Object) (d : decodeFor side (getD ws i 0) ≡ Known o) where
   -- past the first word, the ranks do not fall
   follows : 0 < i → mayFollow (b .object) o ≡ true
   follows h =
       not-false (mayFollow (b .object) o)
-      (sym (ap (λ (t : Bool). outOfOrder t (decodeOf (getD ws (i - 1) 0)) (decodeOf (getD ws i 0))) (ne-eqb i 0 (λ e. omega arith))
+      (sym (ap (λ (t : Bool). outOfOrder t (decodeFor side (getD ws (i - 1) 0)) (decodeFor side (getD ws i 0))) (ne-eqb i 0 (λ e. omega arith))
       ∙ ap₂ (outOfOrder false) (b .decoded h) d)
       ∙ x .1 .1 .1 .1 .0)
 
   none-before : (0 < i → s .rank < 3) → place ≡ 0
   none-before f = ⊎-elim (λ e. omega (arith, a .only .within, e)) (λ l. a .lower (f l)) (let h : 0 ≤ i = omega arith in eq-or-lt-of-le h)
 
-  pub one-more : Alone ws (i + 1) (rankOf o) (cond (eqb (rankOf o) 3) (i + 1) place)
+  pub one-more : Alone side ws (i + 1) (rankOf o) (cond (eqb (rankOf o) 3) (i + 1) place)
   one-more = go (eqb (rankOf o) 3) refl where
-    go : (t : Bool) → eqb (rankOf o) 3 ≡ t → Alone ws (i + 1) (rankOf o) (cond t (i + 1) place)
+    go : (t : Bool) → eqb (rankOf o) 3 ≡ t → Alone side ws (i + 1) (rankOf o) (cond t (i + 1) place)
     go true q =
         let r = eqb-true (rankOf o) 3 q in
         let z = none-before (λ h. omega (arith, rank-in (b .object) (b .stands), rises (b .object) o (follows h) .1 r)) in record {
@@ -87,19 +89,19 @@ module _ (ws : List ℕ) (i place : ℕ) (s : Standing) (a : Alone ws i (s .rank
       only = record {
         within = omega (arith, a .only .within);
         others = λ k h f r. ⊎-elim
-            (λ e. eqb-false (rankOf o) 3 q (sym (ap (λ (y : Decoded). rankOf (objectOf y)) (ap (λ (j : ℕ). decodeOf (getD ws j 0)) e ∙ d)) ∙ r))
+            (λ e. eqb-false (rankOf o) 3 q (sym (ap (λ (y : Decoded). rankOf (objectOf y)) (ap (λ (j : ℕ). decodeFor side (getD ws j 0)) e ∙ d)) ∙ r))
             (λ l. a .only .others k l f r) (let l : k ≤ i = omega arith in eq-or-lt-of-le l);
       };
       lower = λ h. none-before (λ l. omega (arith, h, rank-in (b .object) (b .stands), rises (b .object) o (follows l) .0));
     }
 
 -- a word that is refused is not passed
-pub refused-number : (ws : List ℕ) (n i : ℕ) (v : Verdict) → i < n → v ≡ verdictOf (eachPlace (wordRows ws) n)
-    → ((y : Verdict) → firstOf verdict (wordRows ws i) y ≡ v) → v .number ≡ 0 → ⊥
-refused-number ws n i v h e f z =
-    let clear = none-at (wordRows ws) n i
-    (none-applied (eachPlace (wordRows ws) n) (numbered-places (wordRows ws) (λ k. refl) n) (sym (ap (λ (u : Verdict). u .number) e) ∙ z)) h in
-    let one : verdict 1 0 ≡ v = sym (all-missed verdict (verdict 1 0) (wordRows ws i) clear) ∙ f (verdict 1 0) in
+pub refused-number : (side : Side) (ws : List ℕ) (n i : ℕ) (v : Verdict) → i < n → v ≡ verdictOf (eachPlace (wordRows side ws) n)
+    → ((y : Verdict) → firstOf verdict (wordRows side ws i) y ≡ v) → v .number ≡ 0 → ⊥
+refused-number side ws n i v h e f z =
+    let clear = none-at (wordRows side ws) n i
+    (none-applied (eachPlace (wordRows side ws) n) (numbered-places (wordRows side ws) (λ k. refl) n) (sym (ap (λ (u : Verdict). u .number) e) ∙ z)) h in
+    let one : verdict 1 0 ≡ v = sym (all-missed verdict (verdict 1 0) (wordRows side ws i) clear) ∙ f (verdict 1 0) in
     let q : _≡_ {A = ℕ} 1 0 = ap (λ (u : Verdict). u .number) one ∙ z in
     omega (arith, q)
 
@@ -113,7 +115,7 @@ not-ranked asked (Known (Pps l x m a)) g = refl
 not-ranked asked (Known (Avs p l h)) g = absurd (g refl)
 not-ranked asked NotAllowed g = refl
 
-module _ (ws : List ℕ) (n place : ℕ) (o : OnlyAvs ws n place) where
+module _ (ws : List ℕ) (n place : ℕ) (o : OnlyAvs Source ws n place) where
   elsewhere : (k : ℕ) → k < n → (k + 1 ≡ place → ⊥) → NoneApply (avsRows ws n k)
   unfolding avsDiffers
   elsewhere k h f = (not-ranked (λ low high. not (avsMatches ws n low high)) (decodeOf (getD ws k 0)) (o .others k h f), tt)

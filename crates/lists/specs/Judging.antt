@@ -6,9 +6,10 @@ use Prim.Native.Nat.{ℕ}
 use mathlib.Core.Bool.{Bool, cond}
 use lib.Dec.{eqb}
 use Rattle.verdicts.specs.Refusals.{firstOf, verdict}
+use Rattle.objects.specs.declared.Side.{Side}
 use Rattle.objects.specs.declared.Object.{Object}
 use Rattle.objects.specs.declared.Decoded.the-variants.{Known}
-use Rattle.objects.specs.Decode.{decodeOf}
+use Rattle.objects.specs.Decode.{decodeFor}
 use Rattle.lists.specs.declared.object_rules.Standing.{Standing}
 use Rattle.lists.specs.declared.shape_check.Judged.{Judged}
 use Rattle.lists.specs.declared.shape_check.Judged.the-variants.{Fine, Refused}
@@ -16,9 +17,9 @@ use Rattle.lists.specs.ObjectRules.{rankOf, keyOf, mayFollow}
 use Rattle.lists.specs.Shape.{wordRefusals}
 use Rattle.lists.specs.Reading.{objectOf}
 
-unfoldable pub judgedOf : Bool → ℕ → Object → ℕ → Judged
-judgedOf first place before w =
-    firstOf (λ n p. Refused (verdict n p)) (wordRefusals first place (Known before) w) (Fine (objectOf (decodeOf w)))
+unfoldable pub judgedOf : Side → Bool → ℕ → Object → ℕ → Judged
+judgedOf side first place before w =
+    firstOf (λ n p. Refused (verdict n p)) (wordRefusals side first place (Known before) w) (Fine (objectOf (decodeFor side w)))
 
 -- PPS, of rank 4, counts its voltage in 100 mV, the others in 50 mV
 abbrev pub in100mV : ℕ → Bool
@@ -36,5 +37,5 @@ standingOf o = record {
 abbrev pub Follows : Standing → Object → Bool → Type 0
 Follows s o r = (before : Object) → standingOf before ≡ s → r ≡ mayFollow before o
 
-abbrev pub Judges : Bool → ℕ → Standing → ℕ → Judged → Type 0
-Judges first place s w r = (before : Object) → standingOf before ≡ s → r ≡ judgedOf first place before w
+abbrev pub Judges : Side → Bool → ℕ → Standing → ℕ → Judged → Type 0
+Judges side first place s w r = (before : Object) → standingOf before ≡ s → r ≡ judgedOf side first place before w

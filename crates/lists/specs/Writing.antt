@@ -1,22 +1,25 @@
 -- Writing a list (STATEMENT, "Lists in hand": "It looks at the count first (10), then for the first object with a field that is wider
 -- than its bits (7, the object's place), and then at the shape of the words that the objects make.").
 -- Assumes nothing.
+use mathlib.Core.Bool.{cond}
 use mathlib.Core.List.{List, [], _∷_, _++_}
 use Prim.Native.Nat.{ℕ, _+_}
 use lib.ListN.{getD, replicate}
 use lib.Dec.{eqb}
 use Rattle.verdicts.specs.Refusals.{Refusal, refusal, eachPlace, firstOf, verdict, success}
+use Rattle.objects.specs.declared.Side.{Side}
+use Rattle.objects.specs.declared.Side.the-variants.{Source}
 use Rattle.objects.specs.declared.Encoded.{Encoded}
 use Rattle.objects.specs.Encode.{encodeOf, encodedSays, encodedNumber}
 use Rattle.lists.specs.declared.Words.{Words}
 use Rattle.lists.specs.declared.Place.{Place}
 use Rattle.lists.specs.declared.Objects.{Objects}
 use Rattle.lists.specs.declared.Listing.{Listing}
-use Rattle.lists.specs.Shape.{badCount, shapeRefusals}
+use Rattle.lists.specs.Shape.{badCount, refusalsFor}
 use Rattle.lists.specs.Seven.{sevenTo}
 use Rattle.lists.specs.Reading.{emptyPlace}
 
--- ---- by what the object at place k + 1 is written as (`made k`), whatever form the objects have
+-- ---- by the side, and by what the object at place k + 1 is written as (`made k`), whatever form the objects have
 
 -- 7, at "the first object with a field that is wider than its bits"
 abbrev pub wideRows : (ℕ → Encoded) → ℕ → List Refusal
@@ -33,14 +36,22 @@ abbrev pub noWords : Words
 noWords = record { words = replicate 7 0; count = 0 }
 
 -- "10; 7 at the first such object; then as shape from 11 on"
-abbrev pub writingRefusals : (ℕ → Encoded) → ℕ → List Refusal
-writingRefusals made n = refusal (badCount n) 10 0 ∷ (eachPlace (wideRows made) n ++ shapeRefusals (wordsFrom made n))
+abbrev pub writingRefusals : Side → (ℕ → Encoded) → ℕ → List Refusal
+writingRefusals side made n = refusal (badCount n) 10 0 ∷ (eachPlace (wideRows made) n ++ refusalsFor side (wordsFrom made n))
 
 abbrev pub writeRefused : ℕ → ℕ → Listing
 writeRefused n p = record { verdict = verdict n p; list = noWords }
 
-unfoldable pub writtenFrom : (ℕ → Encoded) → ℕ → Listing
-writtenFrom made n = firstOf writeRefused (writingRefusals made n) (record { verdict = success; list = wordsFrom made n })
+unfoldable pub writtenFrom : Side → (ℕ → Encoded) → ℕ → Listing
+writtenFrom side made n = firstOf writeRefused (writingRefusals side made n) (record { verdict = success; list = wordsFrom made n })
+
+-- words that are given, if they have their shape, and none if they do not
+unfoldable pub listedOf : Side → Words → Listing
+listedOf side l = firstOf writeRefused (refusalsFor side l) (record { verdict = success; list = l })
+
+-- words that were made, if nothing was refused before
+abbrev pub finishedOf : Side → Listing → Listing
+finishedOf side m = cond (eqb (m .verdict .number) 0) (listedOf side (m .list)) m
 
 -- ---- of objects
 
@@ -51,7 +62,7 @@ abbrev pub wordsOf : Objects → Words
 wordsOf o = wordsFrom (encodedAt (o .places)) (o .count)
 
 abbrev pub writeRefusals : Objects → List Refusal
-writeRefusals o = writingRefusals (encodedAt (o .places)) (o .count)
+writeRefusals o = writingRefusals Source (encodedAt (o .places)) (o .count)
 
 abbrev pub writeOf : Objects → Listing
-writeOf o = writtenFrom (encodedAt (o .places)) (o .count)
+writeOf o = writtenFrom Source (encodedAt (o .places)) (o .count)

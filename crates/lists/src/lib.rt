@@ -7,10 +7,14 @@ mod write_list;
 
 use objects::Object;
 pub use read_list::read;
+pub use shape_check::bad_count;
+pub use shape_check::readable;
 pub use shape_check::shape;
+pub use shape_check::shape_for;
 use steps::Ma10;
 use steps::Mv50;
 use verdicts::Verdict;
+pub use write_list::finished;
 pub use write_list::refuse;
 pub use write_list::write;
 
@@ -34,6 +38,14 @@ pub struct Objects {
     // The objects, in order.
     pub places: [Place; 7],
     // How many of them count: 1 to 7 in a list that passes, 0 on a refusal.
+    pub count: u8,
+}
+
+// How a list stands before it is read: the first refusal, and how many words there are to read, none on a refusal.
+pub struct Shaped {
+    // The first refusal that applies, or success.
+    pub verdict: Verdict,
+    // The count of the list, 1 to 7; 0 on a refusal.
     pub count: u8,
 }
 

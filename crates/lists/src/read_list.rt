@@ -1,22 +1,22 @@
 // Reading: from words to objects.
 ghost use mathlib.Core.Path.{_≡_};
 ghost use Prim.Native.Nat.{_≤_};
-ghost use Rattle.lists.specs.Reading.{objectsOf};
+ghost use Rattle.lists.specs.Reading.{objectsTo};
 ghost use Rattle.lists.specs.Promises.{Reads};
 use crate::EMPTY_PLACE;
 use crate::Objects;
 use crate::Place;
 use crate::Reading;
 use crate::Words;
-use crate::shape_check::shape;
+use crate::shape_check::readable;
 use objects::Decoded;
+use objects::Side;
 
-// The object of a word, each in its place; empty places past the count.
-fn decode_words(list: Words) -> Objects
-    requires { ⌜ list .count ≤ 7 ⌝ }
-    ensures { λ r. ⌜ r ≡ objectsOf list ⌝ }
+// The objects of so many words, each in its place; empty places past them.
+fn decode_words(list: Words, count: u8) -> Objects
+    requires { ⌜ count ≤ 7 ⌝ }
+    ensures { λ r. ⌜ r ≡ objectsTo (list .words) count ⌝ }
 {
-    let count = list.count;
     let mut places = [EMPTY_PLACE; 7];
     let mut i: u8 = 0;
     while i < count {
@@ -35,15 +35,9 @@ fn decode_words(list: Words) -> Objects
 pub fn read(list: Words) -> Reading
     ensures { λ r. ⌜ Reads list r ⌝ }
 {
-    let verdict = shape(list);
-    if verdict.number != verdicts::SUCCESS {
-        let places = [EMPTY_PLACE; 7];
-        return Reading {
-            verdict,
-            list: Objects { places, count: 0 },
-        };
-    }
-    let objects = decode_words(list);
+    let shaped = readable(Side::Source, list);
+    let verdict = shaped.verdict;
+    let objects = decode_words(list, shaped.count);
     Reading {
         verdict,
         list: objects,

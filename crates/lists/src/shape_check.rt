@@ -1,4 +1,4 @@
-// The shape check (docs/STATEMENT.md, "Shape of a list").
+// The shape check (docs/STATEMENT.md, "Shape of a list" and "Shape of a sink list").
 ghost use mathlib.Core.Path.{_≡_};
 ghost use mathlib.Core.Bool.{cond};
 ghost use Prim.Native.Nat.{_≤_};
@@ -7,10 +7,11 @@ ghost use Rattle.verdicts.specs.Refusals.{eachPlace, verdictOf};
 ghost use Rattle.steps.specs.Units.{mv50};
 ghost use Rattle.objects.specs.Decode.{decodeOf};
 ghost use Rattle.objects.specs.Asking.{ofObject};
-ghost use Rattle.lists.specs.Shape.{isFixed5V, fixedWith, hasFixed, avsDiffers, avsRows};
+ghost use Rattle.lists.specs.Shape.{isFixed5V, fixedWith, hasFixed, avsDiffers, avsRows, agreementRows};
 ghost use Rattle.lists.specs.Judging.{Judges};
 ghost use Rattle.lists.specs.Scanning.{OnlyAvs, Scans};
-ghost use Rattle.lists.specs.Promises.{Shapes};
+ghost use Rattle.lists.specs.Promises.{MiscountsPlaces, Shapes, ShapesFor, ShapesTo};
+use crate::Shaped;
 use crate::Words;
 use crate::object_rules::Standing;
 use crate::object_rules::may_follow;
@@ -19,6 +20,7 @@ use crate::object_rules::over_100_w;
 use crate::object_rules::standing_of;
 use objects::Decoded;
 use objects::Object;
+use objects::Side;
 use steps::Ma10;
 use steps::Mv50;
 use steps::Mv100;
@@ -36,6 +38,16 @@ pub enum Judged {
     Refused(Verdict),
 }
 
+// Whether no list has so many places. Refusal 10 is given for it.
+pub fn bad_count(count: u8) -> bool
+    ensures { λ r. ⌜ MiscountsPlaces count r ⌝ }
+{
+    if count < 1 {
+        return true;
+    }
+    7 < count
+}
+
 // A fixed voltage stands in bits 19..10. 5 V is 100 steps of 50 mV.
 fn is_fixed_5_v(w: u32) -> bool
     ensures { λ r. ⌜ r ≡ isFixed5V w ⌝ }
@@ -47,17 +59,17 @@ fn is_fixed_5_v(w: u32) -> bool
 }
 
 // One word, with how the object before it stands.
-fn judge(first: bool, place: u8, before: Standing, w: u32) -> Judged
-    ensures { λ r. ⌜ Judges first place before w r ⌝ }
+fn judge(side: Side, first: bool, place: u8, before: Standing, w: u32) -> Judged
+    ensures { λ r. ⌜ Judges side first place before w r ⌝ }
 {
-    let d = objects::decode(w);
+    let d = objects::decode_for(side, w);
     let Decoded::Known(object) = d else {
         return Judged::Refused(Verdict {
             number: verdicts::KIND_NOT_ALLOWED,
             place,
         });
     };
-    if objects::reserved_bit_set(object, first, w) {
+    if objects::reserved_bit_set(side, object, first, w) {
         return Judged::Refused(Verdict {
             number: verdicts::RESERVED_BIT,
             place,
@@ -98,9 +110,9 @@ fn avs_place(avs: u8, rank: u8, place: u8) -> u8
 }
 
 // Word by word, until one is refused.
-fn judge_words(list: Words) -> Scan
+fn judge_words(side: Side, list: Words) -> Scan
     requires { ⌜ list .count ≤ 7 ⌝ }
-    ensures { λ r. ⌜ Scans (list .words) (list .count) r ⌝ }
+    ensures { λ r. ⌜ Scans side (list .words) (list .count) r ⌝ }
 {
     let count = list.count;
     // The order says nothing of the first word, so before it any standing will do.
@@ -114,7 +126,7 @@ fn judge_words(list: Words) -> Scan
     while i < count {
         let at = i as usize;
         let w = list.words[at];
-        let j = judge(i == 0, i + 1, before, w);
+        let j = judge(side, i == 0, i + 1, before, w);
         match j {
             Judged::Fine(object) => {
                 before = standing_of(object);
@@ -188,7 +200,7 @@ fn avs_differs(list: Words, w: u32) -> bool
 
 // The AVS word, where there is one: there is no other, since no AVS object may follow one of its rank or a higher one.
 fn judge_avs(list: Words, avs: u8) -> Verdict
-    requires { ⌜ (list .count ≤ 7) × OnlyAvs (list .words) (list .count) avs ⌝ }
+    requires { ⌜ (list .count ≤ 7) × OnlyAvs Side.Source (list .words) (list .count) avs ⌝ }
     ensures { λ r. ⌜ r ≡ verdictOf (eachPlace (avsRows (list .words) (list .count)) (list .count)) ⌝ }
 {
     if avs < 1 {
@@ -211,19 +223,26 @@ fn judge_avs(list: Words, avs: u8) -> Verdict
     }
 }
 
-// Whether these words make an SPR source list. Refusals: 10; 11 (place 1); then word by word 12, 13, 15, 16, 14 (the word); 17 (the AVS
-// word).
-pub fn shape(list: Words) -> Verdict
-    ensures { λ r. ⌜ Shapes list r ⌝ }
+// 17: no sink has an AVS object that could differ.
+fn agree(side: Side, list: Words, avs: u8) -> Verdict
+    requires { ⌜ (list .count ≤ 7) × OnlyAvs side (list .words) (list .count) avs ⌝ }
+    ensures { λ r. ⌜ r ≡ verdictOf (agreementRows side list) ⌝ }
 {
-    let count = list.count;
-    if count < 1 {
-        return Verdict {
-            number: verdicts::COUNT,
+    match side {
+        Side::Source => judge_avs(list, avs),
+        Side::Sink => Verdict {
+            number: verdicts::SUCCESS,
             place: 0,
-        };
+        },
     }
-    if 7 < count {
+}
+
+// Whether these words make a list of this side. Refusals: 10; 11 (place 1); then word by word 12, 13, 15, 16, 14 (the word); and for a
+// source 17 (the AVS word).
+pub fn shape_for(side: Side, list: Words) -> Verdict
+    ensures { λ r. ⌜ ShapesFor side list r ⌝ }
+{
+    if bad_count(list.count) {
         return Verdict {
             number: verdicts::COUNT,
             place: 0,
@@ -231,14 +250,36 @@ pub fn shape(list: Words) -> Verdict
     }
     let first = list.words[0];
     if is_fixed_5_v(first) {
-        let words = judge_words(list);
+        let words = judge_words(side, list);
         if words.verdict.number != verdicts::SUCCESS {
             return words.verdict;
         }
-        return judge_avs(list, words.avs);
+        return agree(side, list, words.avs);
     }
     Verdict {
         number: verdicts::FIRST_NOT_FIXED_5_V,
         place: 1,
+    }
+}
+
+// Whether these words make an SPR source list. Refusals: those of `shape_for` a source.
+pub fn shape(list: Words) -> Verdict
+    ensures { λ r. ⌜ Shapes list r ⌝ }
+{
+    shape_for(Side::Source, list)
+}
+
+// How many words of a list of this side there are to read: how reading begins, in whatever form the objects are given. Refusals: those of
+// `shape_for`.
+pub fn readable(side: Side, list: Words) -> Shaped
+    ensures { λ r. ⌜ ShapesTo side list r ⌝ }
+{
+    let verdict = shape_for(side, list);
+    if verdict.number != verdicts::SUCCESS {
+        return Shaped { verdict, count: 0 };
+    }
+    Shaped {
+        verdict,
+        count: list.count,
     }
 }

@@ -13,12 +13,13 @@ use Rattle.verdicts.specs.declared.Verdict.{Verdict}
 use Rattle.verdicts.specs.Refusals.{Refusal, refusal, verdict, success, verdictOf, NoneApply}
 use Rattle.verdicts.proofs.Bools.{either-false}
 use Rattle.verdicts.proofs.First.{allPass, pass-append, pass-places, number-passes, none-applied, none-left, none-right, all-missed, refused-so, passes, said-first}
+use Rattle.objects.specs.declared.Side.the-variants.{Source}
 use Rattle.objects.specs.Layout.{allFit}
 use Rattle.lists.specs.declared.Words.{Words}
 use Rattle.lists.specs.Kept.{Words32}
-use Rattle.lists.specs.Shape.{wordRows, avsRows, shapeRefusals}
+use Rattle.lists.specs.Shape.{wordRows, avsRows, agreementRows, shapeRefusals}
 use Rattle.lists.proofs.Sevens.{filled-at}
-use Rattle.lists.proofs.Shapes.{wordsPart, avsPart}
+use Rattle.lists.proofs.Shapes.{wordsPart}
 use Rattle.messages.specs.declared.Header.{Header}
 use Rattle.messages.specs.declared.Message.{Message}
 use Rattle.messages.specs.declared.MessageReading.{MessageReading}
@@ -208,7 +209,7 @@ list-passes m = go (isSourceCapabilities (m .header)) where
 
   go : (b : Bool) → allPass not52 (cond b (shapeRefusals (listIn m)) []) ≡ true
   go true =
-      pass-append not52 (wordsPart l) (avsPart l) (pass-places not52 (wordRows (l .words)) (λ k. refl) (l .count))
+      pass-append not52 (wordsPart Source l) (agreementRows Source l) (pass-places not52 (wordRows Source (l .words)) (λ k. refl) (l .count))
       (pass-places not52 (avsRows (l .words) (l .count)) (λ k. refl) (l .count))
   go false = refl
 

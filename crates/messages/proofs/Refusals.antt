@@ -7,6 +7,7 @@ use lib.Dec.{eqb}
 use borrow.Author.Tests.{eq-eqb, ne-eqb}
 use Rattle.verdicts.specs.Refusals.{firstOf, verdict, success, verdictOf}
 use Rattle.verdicts.proofs.First.{numbered}
+use Rattle.objects.specs.declared.Side.the-variants.{Source}
 use Rattle.lists.specs.Shape.{shapeRefusals}
 use Rattle.lists.proofs.Shapes.{shape-numbered}
 use Rattle.messages.specs.declared.Header.{Header}
@@ -48,5 +49,5 @@ module _ (m : Message) where
   pub list-numbered : numbered (listRefusals m) ≡ true
   list-numbered = go (eqb (m .header .«message_type») 1) where
     go : (b : Bool) → numbered (cond b (shapeRefusals (listIn m)) []) ≡ true
-    go true = shape-numbered (listIn m)
+    go true = shape-numbered Source (listIn m)
     go false = refl

@@ -10,6 +10,7 @@ use lib.Dec.{ltb}
 use lib.ListN.{length, drop, getD}
 use Rattle.verdicts.specs.Refusals.{Refusal, refusal, firstOf, success}
 use Rattle.verdicts.proofs.First.{onward}
+use Rattle.objects.specs.declared.Side.the-variants.{Source}
 use Rattle.objects.specs.Layout.{allFit, joined}
 use Rattle.lists.specs.Shape.{shapeRefusals}
 use Rattle.lists.proofs.Unread.{counting, same-by-shape}
@@ -38,7 +39,7 @@ same-list h ws vs e {A} refused x y q = go (isSourceCapabilities h) where
   go : (b : Bool)
       → firstOf refused (cond b (shapeRefusals (counting ws (h .count))) []) x
       ≡ firstOf refused (cond b (shapeRefusals (counting vs (h .count))) []) y
-  go true = same-by-shape ws vs (h .count) e refused x y q
+  go true = same-by-shape Source ws vs (h .count) e refused x y q
   go false = q
 
 module _ (m n : Message) (a : AgreeMessages m n) where

@@ -1,9 +1,11 @@
 pub mod Taking
+pub mod SetBits
 pub mod Putting
 pub mod Rows
 pub mod Cases
 pub mod Saying
 pub mod Others
+pub mod Sides
 pub mod RoundTrip
 pub mod Numbers
 pub mod Made

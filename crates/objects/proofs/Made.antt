@@ -9,7 +9,8 @@ use lib.Pow.{mod-pow-add, shr-shr}
 use lib.Dec.{eqb}
 use borrow.Author.Tests.{eq-eqb}
 use Rattle.objects.specs.Bits.{bits}
-use Rattle.objects.specs.Decode.{clear, reservedClear, reservedSet}
+use Rattle.objects.specs.Reserved.{clear, reservedSet}
+use Rattle.objects.specs.declared.Side.the-variants.{Source}
 use Rattle.objects.specs.Layout.{Field, allFit, joined}
 use Rattle.objects.specs.Encode.{fieldsOf, ifFit, wordOf, encodeOf}
 use Rattle.objects.specs.declared.Object.{Object}
@@ -38,7 +39,7 @@ eight-of-low w e f =
 all-clear : (w : ℕ) → bits w 26 25 ≡ 0 → bits w 16 16 ≡ 0 → bits w 7 7 ≡ 0 → not (clear w 26 25 && clear w 16 16 && clear w 7 7) ≡ false
 all-clear w a b d = rw (eq-eqb (bits w 26 25) 0 a, eq-eqb (bits w 16 16) 0 b, eq-eqb (bits w 7 7) 0 d)
 
-pub made-clear : (o : Object) (w : ℕ) (first : Bool) → encodeOf o ≡ Word w → flagless first o → reservedSet o first w ≡ false
+pub made-clear : (o : Object) (w : ℕ) (first : Bool) → encodeOf o ≡ Word w → flagless first o → reservedSet Source o first w ≡ false
 unfolding reservedSet
 made-clear (Fixed f p v a) w true e t =
     let r = made (fieldsOf (Fixed f p v a)) w refl e in

@@ -40,9 +40,9 @@ too-wide : (b : Bool) (w : ℕ) → encodedNumber (ifFit b w) ≡ 7 → b ≡ fa
 too-wide true w e = absurd (omega arith)
 too-wide false w e = refl
 
-pub encode-refuses : (o : Object) → encodedNumber (encodeOf o) ≡ 7 ↔ (allFit (fieldsOf o) ≡ false)
+pub fields-refused : (fs : List Field) → encodedNumber (wordOf fs) ≡ 7 ↔ (allFit fs ≡ false)
 unfolding wordOf
-encode-refuses o = (
-  (λ e. too-wide (allFit (fieldsOf o)) (joined (fieldsOf o)) e),
-  (λ e. ap (λ (b : Bool). encodedNumber (ifFit b (joined (fieldsOf o)))) e),
-)
+fields-refused fs = ((λ e. too-wide (allFit fs) (joined fs) e), (λ e. ap (λ (b : Bool). encodedNumber (ifFit b (joined fs))) e))
+
+pub encode-refuses : (o : Object) → encodedNumber (encodeOf o) ≡ 7 ↔ (allFit (fieldsOf o) ≡ false)
+encode-refuses o = fields-refused (fieldsOf o)

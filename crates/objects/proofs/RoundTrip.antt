@@ -9,7 +9,10 @@ use borrow.Author.Tests.{eqb-true, not-false}
 use native.Mathlib.Omega.{arith}
 use Rattle.objects.specs.Bits.{bits}
 use Rattle.objects.specs.Layout.{Field, field, allFit, joined}
-use Rattle.objects.specs.Decode.{fixedOf, batteryOf, variableOf, ppsOf, avsOf, byKind, byAugmented, decodeOf, clear, fixedClear, reservedClear, reservedSet}
+use Rattle.objects.specs.Decode.{fixedOf, batteryOf, variableOf, ppsOf, avsOf, byKind, byAugmented, decodeOf, decodeFor}
+use Rattle.objects.specs.Reserved.{clear, fixedClear, reservedClear, reservedSet}
+use Rattle.objects.specs.declared.Side.{Side}
+use Rattle.objects.specs.declared.Side.the-variants.{Source, Sink}
 use Rattle.objects.specs.Encode.{fieldsOf, ifFit, wordOf, encodeOf}
 use Rattle.objects.specs.declared.Object.{Object}
 use Rattle.objects.specs.declared.Object.the-variants.{Fixed, Battery, Variable, Pps, Avs}
@@ -18,52 +21,50 @@ use Rattle.objects.specs.declared.Decoded.the-variants.{Known, NotAllowe
 use Rattle.objects.specs.declared.Encoded.{Encoded}
 use Rattle.objects.specs.declared.Encoded.the-variants.{Word, TooWide}
 use Rattle.objects.proofs.Taking.{bits-lt}
+use Rattle.objects.proofs.SetBits.{clear-within}
 use Rattle.objects.proofs.Cases.{kind-is, augmented-is}
+use Rattle.objects.proofs.Sides.{known-for, clear-for}
 use Rattle.objects.proofs.Rows.{retaken, gapless, total, retaken-fit, whole, parted}
 
--- an object whose fields are those of a word has that word
-from-word : (w : ℕ) (o : Object) → gapless 0 (fieldsOf o) ≡ true → w < 2 ^ total (fieldsOf o) → fieldsOf o ≡ retaken w (fieldsOf o) → encodeOf o ≡ Word w
+-- fields that are those of a word make that word, whatever the layout
+pub from-word : (w : ℕ) (fs : List Field) → gapless 0 fs ≡ true → w < 2 ^ total fs → fs ≡ retaken w fs → wordOf fs ≡ Word w
 unfolding wordOf
-from-word w o t h e = rw e (rw (retaken-fit w (fieldsOf o)) (ap Word (whole w (fieldsOf o) t h)))
+from-word w fs t h e = rw e (rw (retaken-fit w fs) (ap Word (whole w fs t h)))
 
 -- bit 22 is among 29..22
-low-of-eight : (w : ℕ) → bits w 29 22 ≡ 0 → bits w 22 22 ≡ 0
-unfolding bits
-low-of-eight w e = let x = w / 2 ^ 22 in omega arith
-
-fixed-low : (first : Bool) (w : ℕ) → fixedClear first w ≡ true → bits w 22 22 ≡ 0
+fixed-low : (first : Bool) (w : ℕ) → fixedClear Source first w ≡ true → bits w 22 22 ≡ 0
 fixed-low true w t = eqb-true (bits w 22 22) 0 t
-fixed-low false w t = low-of-eight w (eqb-true (bits w 29 22) 0 t)
+fixed-low false w t = clear-within w 22 22 29 22 (omega arith) (omega arith) (omega arith) (eqb-true (bits w 29 22) 0 t)
 
 module _ (w : ℕ) (h : w < 2 ^ 32) (first : Bool) where
-  fixed-back : bits w 31 30 ≡ 0 → reservedClear (fixedOf w) first w ≡ true → encodeOf (fixedOf w) ≡ Word w
+  fixed-back : bits w 31 30 ≡ 0 → reservedClear Source (fixedOf w) first w ≡ true → encodeOf (fixedOf w) ≡ Word w
   fixed-back k t =
       let r : bits w 22 22 ≡ 0 = fixed-low first w t in
-      from-word w (fixedOf w) refl h (cc)
+      from-word w (fieldsOf (fixedOf w)) refl h (cc)
 
   battery-back : bits w 31 30 ≡ 1 → encodeOf (batteryOf w) ≡ Word w
-  battery-back k = from-word w (batteryOf w) refl h (cc)
+  battery-back k = from-word w (fieldsOf (batteryOf w)) refl h (cc)
 
   variable-back : bits w 31 30 ≡ 2 → encodeOf (variableOf w) ≡ Word w
-  variable-back k = from-word w (variableOf w) refl h (cc)
+  variable-back k = from-word w (fieldsOf (variableOf w)) refl h (cc)
 
-  pps-back : bits w 31 30 ≡ 3 → bits w 29 28 ≡ 0 → reservedClear (ppsOf w) first w ≡ true → encodeOf (ppsOf w) ≡ Word w
+  pps-back : bits w 31 30 ≡ 3 → bits w 29 28 ≡ 0 → reservedClear Source (ppsOf w) first w ≡ true → encodeOf (ppsOf w) ≡ Word w
   pps-back k m t =
       let t1 = and-eq-true-iff (clear w 26 25 && clear w 16 16) (clear w 7 7) .0 t in
       let t2 = and-eq-true-iff (clear w 26 25) (clear w 16 16) .0 (t1 .0) in
       let a : bits w 26 25 ≡ 0 = eqb-true (bits w 26 25) 0 (t2 .0) in
       let b : bits w 16 16 ≡ 0 = eqb-true (bits w 16 16) 0 (t2 .1) in
       let d : bits w 7 7 ≡ 0 = eqb-true (bits w 7 7) 0 (t1 .1) in
-      from-word w (ppsOf w) refl h (cc)
+      from-word w (fieldsOf (ppsOf w)) refl h (cc)
 
-  avs-back : bits w 31 30 ≡ 3 → bits w 29 28 ≡ 2 → reservedClear (avsOf w) first w ≡ true → encodeOf (avsOf w) ≡ Word w
+  avs-back : bits w 31 30 ≡ 3 → bits w 29 28 ≡ 2 → reservedClear Source (avsOf w) first w ≡ true → encodeOf (avsOf w) ≡ Word w
   avs-back k m t =
       let r : bits w 25 20 ≡ 0 = eqb-true (bits w 25 20) 0 t in
-      from-word w (avsOf w) refl h (cc)
+      from-word w (fieldsOf (avsOf w)) refl h (cc)
 
   -- what is said of each object that a word can decode to
   Back : Decoded → Type 0
-  Back (Known o) = reservedClear o first w ≡ true → encodeOf o ≡ Word w
+  Back (Known o) = reservedClear Source o first w ≡ true → encodeOf o ≡ Word w
   Back NotAllowed = Unit {0}
 
   augmented-back : (m : ℕ) → bits w 31 30 ≡ 3 → bits w 29 28 ≡ m → Back (byAugmented m w)
@@ -81,10 +82,12 @@ module _ (w : ℕ) (h : w < 2 ^ 32) (first : Bool) where
   kind-back (suc (suc (suc zero))) e l = augmented-back (bits w 29 28) e refl
   kind-back (suc (suc (suc (suc n)))) e l = absurd (omega arith)
 
-  -- a word of an allowed kind with no reserved bit set decodes, and the object encodes back to the word
-  pub decode-encode : (o : Object) → decodeOf w ≡ Known o → reservedSet o first w ≡ false → encodeOf o ≡ Word w
+  -- a word of a kind that its side has, with no reserved bit set, decodes, and the object encodes back to the word
+  pub decode-encode : (side : Side) (o : Object) → decodeFor side w ≡ Known o → reservedSet side o first w ≡ false → encodeOf o ≡ Word w
   unfolding Back decodeOf reservedSet
-  decode-encode o e t = subst Back e (kind-back (bits w 31 30) refl (bits-lt w 31 30)) (not-false (reservedClear o first w) t)
+  decode-encode side o e t =
+      subst Back (known-for side (decodeOf w) o e) (kind-back (bits w 31 30) refl (bits-lt w 31 30))
+      (clear-for side o first w (not-false (reservedClear side o first w) t))
 
 -- ---- the other way: a word that was made of an object decodes to it
 

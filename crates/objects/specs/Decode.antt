@@ -1,11 +1,13 @@
 -- What a word says (STATEMENT, "Object words").
 -- Assumes nothing.
-use mathlib.Core.Bool.{Bool, true, false, cond, not, _&&_, _||_}
+use mathlib.Core.Bool.{Bool, cond, _||_}
 use Prim.Native.Nat.{ℕ, zero, suc}
 use lib.Dec.{eqb}
 use Rattle.objects.specs.Bits.{bits}
 use Rattle.objects.specs.declared.Object.{Object}
 use Rattle.objects.specs.declared.Object.the-variants.{Fixed, Battery, Variable, Pps, Avs}
+use Rattle.objects.specs.declared.Side.{Side}
+use Rattle.objects.specs.declared.Side.the-variants.{Source, Sink}
 use Rattle.objects.specs.declared.Decoded.{Decoded}
 use Rattle.objects.specs.declared.Decoded.the-variants.{Known, NotAllowed}
 
@@ -64,6 +66,23 @@ byKind (suc (suc (suc k))) w = byAugmented (bits w 29 28) w
 unfoldable pub decodeOf : ℕ → Decoded
 decodeOf w = byKind (bits w 31 30) w
 
+-- ---- by the side whose list the word stands in: a sink has "no AVS object" (STATEMENT, "Sink objects")
+
+abbrev pub exceptAvs : Decoded → Decoded
+exceptAvs (Known (Fixed f p v a)) = Known (Fixed f p v a)
+exceptAvs (Known (Battery x m p)) = Known (Battery x m p)
+exceptAvs (Known (Variable x m a)) = Known (Variable x m a)
+exceptAvs (Known (Pps l x m a)) = Known (Pps l x m a)
+exceptAvs (Known (Avs p l h)) = NotAllowed
+exceptAvs NotAllowed = NotAllowed
+
+abbrev pub allowedFor : Side → Decoded → Decoded
+allowedFor Source d = d
+allowedFor Sink d = exceptAvs d
+
+abbrev pub decodeFor : Side → ℕ → Decoded
+decodeFor side w = allowedFor side (decodeOf w)
+
 -- ---- what each answer says: its refusal number, and the object
 
 -- "a fixed object with all its fields zero"
@@ -80,30 +99,14 @@ decodedNumber d = decodedSays d .0
 
 -- ---- what is to be said of a word
 
--- "not allowed (EPR AVS)" and "not allowed (no kind)"
-abbrev pub kindNotAllowed : ℕ → Bool
-kindNotAllowed w = isKind w 0xD || isKind w 0xF
+-- "not allowed (EPR AVS)" and "not allowed (no kind)". Of a sink "the kinds 1101b, 1110b and 1111b are not allowed" (STATEMENT, "Sink
+-- objects").
+abbrev pub notAllowedFor : Side → ℕ → Bool
+notAllowedFor Source kind = eqb kind 0xD || eqb kind 0xF
+notAllowedFor Sink kind = eqb kind 0xD || eqb kind 0xE || eqb kind 0xF
+
+abbrev pub wordSaysFor : Side → ℕ → ℕ × Object
+wordSaysFor side w = cond (notAllowedFor side (kindBits w)) (12, zeroObject) (0, decodedSays (decodeOf w) .1)
 
 abbrev pub wordSays : ℕ → ℕ × Object
-wordSays w = cond (kindNotAllowed w) (12, zeroObject) (0, decodedSays (decodeOf w) .1)
-
--- ---- "Reserved bits, which have to be zero", by the kind and by whether the word is the first of its list
-
-abbrev pub clear : ℕ → ℕ → ℕ → Bool
-clear w hi lo = eqb (bits w hi lo) 0
-
--- "fixed, the first word of a list": 22. "fixed, any later word": 29..22
-abbrev pub fixedClear : Bool → ℕ → Bool
-fixedClear true w = clear w 22 22
-fixedClear false w = clear w 29 22
-
--- PPS: 26..25, 16 and 7 are reserved. SPR AVS: 25..20
-abbrev pub reservedClear : Object → Bool → ℕ → Bool
-reservedClear (Fixed f p v a) first w = fixedClear first w
-reservedClear (Battery x m p) first w = true
-reservedClear (Variable x m a) first w = true
-reservedClear (Pps l x m a) first w = clear w 26 25 && clear w 16 16 && clear w 7 7
-reservedClear (Avs p l h) first w = clear w 25 20
-
-unfoldable pub reservedSet : Object → Bool → ℕ → Bool
-reservedSet o first w = not (reservedClear o first w)
+wordSays w = wordSaysFor Source w

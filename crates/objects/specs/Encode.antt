@@ -54,6 +54,10 @@ encodedSays TooWide = (7, 0)
 abbrev pub encodedNumber : Encoded → ℕ
 encodedNumber e = encodedSays e .0
 
+-- what is to be said of fields that go into a word
+abbrev pub fieldsSay : List Field → ℕ × ℕ
+fieldsSay fs = cond (allFit fs) (0, joined fs) (7, 0)
+
 -- what is to be said of an object
 abbrev pub objectSays : Object → ℕ × ℕ
-objectSays o = cond (allFit (fieldsOf o)) (0, joined (fieldsOf o)) (7, 0)
+objectSays o = fieldsSay (fieldsOf o)

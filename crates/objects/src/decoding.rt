@@ -1,5 +1,5 @@
 // From a word to an object. The fields are taken by shifts and masks at their bit places (docs/STATEMENT.md, "Object words").
-ghost use Rattle.objects.specs.Promises.{TellsKind, Decodes, TellsReserved};
+ghost use Rattle.objects.specs.Promises.{TellsKind, Decodes, DecodesFor};
 ghost use Rattle.objects.specs.Decode.{fixedOf, batteryOf, variableOf, ppsOf, avsOf};
 ghost use mathlib.Core.Path.{_≡_};
 use crate::BITS_AVS;
@@ -11,6 +11,7 @@ use crate::BITS_UNASSIGNED;
 use crate::BITS_VARIABLE;
 use crate::Decoded;
 use crate::Object;
+use crate::Side;
 use steps::Ma10;
 use steps::Ma50;
 use steps::Mv50;
@@ -106,30 +107,18 @@ pub fn is_kind(w: u32, kind: u32) -> bool
     (w >> 28) & 0xF == kind
 }
 
-// Whether a word has a bit set that is reserved for an object of this kind. The first word of a list may carry flags. Nothing is
-// refused: a list with such a word is, with 13.
-pub fn reserved_bit_set(o: Object, first: bool, w: u32) -> bool
-    ensures { λ r. ⌜ TellsReserved o first w r ⌝ }
+// The object of a word in a list of this side. `NotAllowed` (refusal 12) where its kind is one that no such list may hold: those of
+// `decode`, and for a sink AVS too.
+pub fn decode_for(side: Side, w: u32) -> Decoded
+    ensures { λ r. ⌜ DecodesFor side w r ⌝ }
 {
-    match o {
-        Object::Fixed { .. } => {
-            if first {
-                (w >> 22) & 0x1 != 0
-            } else {
-                (w >> 22) & 0xFF != 0
+    match side {
+        Side::Source => decode(w),
+        Side::Sink => {
+            if is_kind(w, BITS_AVS) {
+                return Decoded::NotAllowed;
             }
+            decode(w)
         }
-        Object::Battery { .. } => false,
-        Object::Variable { .. } => false,
-        Object::Pps { .. } => {
-            if (w >> 25) & 0x3 != 0 {
-                return true;
-            }
-            if (w >> 16) & 0x1 != 0 {
-                return true;
-            }
-            (w >> 7) & 0x1 != 0
-        }
-        Object::Avs { .. } => (w >> 20) & 0x3F != 0,
     }
 }

@@ -7,14 +7,24 @@ use steps::Mw250;
 
 mod decoding;
 mod encoding;
+mod reserved_bits;
 
 pub use decoding::decode;
+pub use decoding::decode_for;
 pub use decoding::is_kind;
-pub use decoding::reserved_bit_set;
 pub use encoding::avs_word;
 pub use encoding::encode;
 pub use encoding::fixed_word;
 pub use encoding::pps_word;
+pub use reserved_bits::reserved_bit_set;
+
+// Who sends a list. A sink has fewer kinds and fewer fields; what it does have stands at the same bits.
+pub enum Side {
+    // What is offered.
+    Source,
+    // What is needed.
+    Sink,
+}
 
 // The bits 31..30 of a fixed object. The kind of a word is told by these two bits, and where both are set by bits 31..28.
 pub const BITS_FIXED: u32 = 0b00;

@@ -13,6 +13,7 @@ use Rattle.verdicts.specs.Refusals.{refusal, firstOf, verdict, success, verdict
 use Rattle.verdicts.proofs.First.{none-applied, onward, all-missed}
 use Rattle.steps.specs.Ranges.{within}
 use Rattle.steps.proofs.RangeLaws.{inside, at-least, at-most}
+use Rattle.objects.specs.declared.Side.the-variants.{Source}
 use Rattle.objects.specs.declared.Object.{Object}
 use Rattle.objects.specs.declared.Decoded.{Decoded}
 use Rattle.objects.specs.declared.Decoded.the-variants.{Known, NotAllowed}
@@ -104,7 +105,7 @@ built-shaped p h = go (eqb (builtOf p .verdict .number) 0) refl where
   go true t =
       let clear = none-applied (buildRefusals p) (build-numbered p) (ap (λ (v : Verdict). v .number) (sym (build-verdict p)) ∙ eqb-true _ 0 t) in
       ap (λ (l : Listing). shapeOf (l .list) .number) (build-clear p clear)
-      ∙ ap (λ (v : Verdict). v .number) (shape-verdict (builtWords p)
+      ∙ ap (λ (v : Verdict). v .number) (shape-verdict Source (builtWords p)
       ∙ all-missed verdict success (shapeRefusals (builtWords p)) (shape-clear p clear))
   go false t =
       let none : builtOf p .list .count ≡ 0 =
@@ -143,7 +144,7 @@ module _ (y : Row) (w : ℕ) (e : named (ruleList y) w ≡ NotAllowed) where
     go : (b : Bool) → eqb (l .count) 0 ≡ b → cond b (verdict 10 0) (verdict 20 0) ≡ answerOf l w
     go true t =
         let none = eqb-true (l .count) 0 t in
-        let counted = miscounted l (too-few (l .count) (omega (arith, none))) in
+        let counted = miscounted Source l (too-few (l .count) (omega (arith, none))) in
         sym (misshapen l w (λ z. let q = sym (ap (λ (v : Verdict). v .number) counted) ∙ z in omega (arith, q)) ∙ counted)
     go false t = sym (misplaced-in (not-0 (l .count) (eqb-false (l .count) 0 t)))
 

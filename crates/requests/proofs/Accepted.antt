@@ -12,7 +12,7 @@ use Rattle.objects.specs.declared.Object.{Object}
 use Rattle.objects.specs.declared.Decoded.{Decoded}
 use Rattle.objects.specs.declared.Decoded.the-variants.{Known}
 use Rattle.lists.specs.declared.Words.{Words}
-use Rattle.lists.specs.Shape.{shapeRefusals, shapeOf}
+use Rattle.lists.specs.Shape.{shapeFor, shapeRefusals, shapeOf}
 use Rattle.lists.specs.Reading.{objectOf}
 use Rattle.requests.specs.Taking.{positionOf, mismatchOf, requestOf}
 use Rattle.requests.specs.Limits.{voltsOf, operatingOf, advertisedAt, inRange, wholeStep, maximumTooLarge}
@@ -42,7 +42,7 @@ module _ (l : Words) (w : ℕ) (e : answerOf l w ≡ success) where
   none = none-applied (answerRefusals l w) (answer-numbered l w) (ap (λ (v : Verdict). v .number) e)
 
   shaped : shapeOf l ≡ success
-  unfolding shapeOf
+  unfolding shapeFor
   shaped = all-missed verdict success (shapeRefusals l) (none-left (shapeRefusals l) _ none)
 
   pub accepted : Accepted l w

@@ -8,14 +8,15 @@ use lib.Dec.{ltb}
 use borrow.Author.Tests.{lt-ltb, le-ltb, ltb-false}
 use Rattle.verdicts.proofs.Bools.{either-false}
 use Rattle.verdicts.specs.Refusals.{verdict, success, verdictOf}
-use Rattle.verdicts.proofs.First.{hit, miss, onward, all-missed, refused-so, numbered, numbered-append}
+use Rattle.verdicts.proofs.First.{hit, miss, onward, numbered, numbered-append}
+use Rattle.objects.specs.declared.Side.the-variants.{Source}
 use Rattle.objects.specs.declared.Object.{Object}
 use Rattle.objects.specs.declared.Decoded.{Decoded}
 use Rattle.objects.specs.declared.Decoded.the-variants.{Known, NotAllowed}
 use Rattle.lists.specs.declared.Words.{Words}
 use Rattle.lists.specs.Shape.{shapeRefusals, shapeOf}
 use Rattle.lists.specs.Reading.{objectOf}
-use Rattle.lists.proofs.Shapes.{shape-numbered, none-of, word-passes, count-high}
+use Rattle.lists.proofs.Shapes.{shape-numbered, none-of, word-passes, as-shape-refused, as-shape-passes, count-high}
 use Rattle.lists.proofs.Judging.{has-object}
 use Rattle.requests.specs.Taking.{positionOf}
 use Rattle.requests.specs.Judging.{refusalsOf, judgedOf}
@@ -55,7 +56,7 @@ named-numbered NotAllowed w = refl
 
 module _ (l : Words) (w : ℕ) where
   pub answer-numbered : numbered (answerRefusals l w) ≡ true
-  answer-numbered = numbered-append (shapeRefusals l) _ (shape-numbered l) (named-numbered (namedBy l w) w)
+  answer-numbered = numbered-append (shapeRefusals l) _ (shape-numbered Source l) (named-numbered (namedBy l w) w)
 
   pub answer-verdict : answerOf l w ≡ verdictOf (answerRefusals l w)
   unfolding answerOf
@@ -64,27 +65,27 @@ module _ (l : Words) (w : ℕ) where
   -- ---- the cases, in order
 
   pub misshapen : (shapeOf l .number ≡ 0 → ⊥) → answerOf l w ≡ shapeOf l
-  unfolding answerOf shapeOf
-  misshapen f = onward verdict success (shapeRefusals l) _ ∙ refused-so verdict (shapeRefusals l) f _
+  unfolding answerOf
+  misshapen f = onward verdict success (shapeRefusals l) _ ∙ as-shape-refused verdict Source l _ f
 
   module _ (shaped : shapeOf l .number ≡ 0) where
     pub misplaced : badPosition (l .count) (positionOf w) ≡ true → answerOf l w ≡ verdict 20 0
     unfolding answerOf
     misplaced e =
-        onward verdict success (shapeRefusals l) _ ∙ all-missed verdict _ (shapeRefusals l) (none-of l shaped) ∙ hit verdict success 20 0 _ e
+        onward verdict success (shapeRefusals l) _ ∙ as-shape-passes verdict Source l _ shaped ∙ hit verdict success 20 0 _ e
 
     pub judged : (o : Object) → badPosition (l .count) (positionOf w) ≡ false → namedBy l w ≡ Known o → answerOf l w ≡ judgedOf o w
     unfolding answerOf judgedOf
     judged o e d =
         onward verdict success (shapeRefusals l) _
-        ∙ all-missed verdict _ (shapeRefusals l) (none-of l shaped)
+        ∙ as-shape-passes verdict Source l _ shaped
         ∙ miss verdict success 20 0 _ e
         ∙ rw d
 
     -- a list whose shape passes has an object in every word
     pub names-object : 1 ≤ positionOf w → positionOf w ≤ l .count → namedBy l w ≡ Known (objectOf (namedBy l w))
-    names-object h k = has-object (namedBy l w) (word-passes l (none-of l shaped) (positionOf w - 1) (omega arith) .0)
+    names-object h k = has-object (namedBy l w) (word-passes Source l (none-of Source l shaped) (positionOf w - 1) (omega arith) .0)
 
     -- .. and has no more than seven
     pub named-to-7 : positionOf w ≤ l .count → positionOf w ≤ 7
-    named-to-7 k = let seven = count-high (l .count) (none-of l shaped .0) in omega (arith, k, seven)
+    named-to-7 k = let seven = count-high (l .count) (none-of Source l shaped .0) in omega (arith, k, seven)

@@ -8,6 +8,7 @@ use Prim.Native.Nat.{ℕ, _-_, _<_}
 use lib.ListN.{getD}
 use Rattle.verdicts.specs.Refusals.{Refusal, refusal, verdict, success, verdictOf}
 use Rattle.verdicts.proofs.First.{hit}
+use Rattle.objects.specs.declared.Side.the-variants.{Source}
 use Rattle.objects.specs.Decode.{decodeOf}
 use Rattle.lists.specs.declared.Words.{Words}
 use Rattle.lists.specs.Unread.{AgreeWords}
@@ -31,7 +32,7 @@ module _ (ws vs : List ℕ) (n : ℕ) (e : (k : ℕ) → k < n → getD ws k 0 �
 
   same-answer : answerOf (counting ws n) w ≡ answerOf (counting vs n) w
   unfolding answerOf
-  same-answer = same-past-shape ws vs n e verdict success (placed ws) (placed vs) same-placed
+  same-answer = same-past-shape Source ws vs n e verdict success (placed ws) (placed vs) same-placed
 
 pub answer-unread : (w : ℕ) (l m : Words) → AgreeWords l m → answerOf l w ≡ answerOf m w
 answer-unread w l m a =

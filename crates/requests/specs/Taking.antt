@@ -6,7 +6,7 @@ use Rattle.steps.specs.declared.Mv20.{Mv20}
 use Rattle.steps.specs.declared.Mv25.{Mv25}
 use Rattle.steps.specs.declared.Ma50.{Ma50}
 use Rattle.objects.specs.Bits.{bits}
-use Rattle.objects.specs.Decode.{clear}
+use Rattle.objects.specs.Reserved.{clear}
 use Rattle.objects.specs.declared.Object.{Object}
 use Rattle.objects.specs.declared.Object.the-variants.{Fixed, Battery, Variable, Pps, Avs}
 use Rattle.requests.specs.declared.Request.{Request}

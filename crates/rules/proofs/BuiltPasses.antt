@@ -11,12 +11,14 @@ use lib.ListN.{length, getD}
 use borrow.Author.Tests.{eq-eqb, ne-eqb, ltb-true, ltb-false}
 use Rattle.verdicts.specs.Refusals.{refusal, eachPlace, NoneApply}
 use Rattle.verdicts.proofs.First.{none-append, none-left, none-right, none-all}
+use Rattle.objects.specs.declared.Side.the-variants.{Source}
 use Rattle.objects.specs.declared.Object.{Object}
 use Rattle.objects.specs.declared.Decoded.{Decoded}
 use Rattle.objects.specs.declared.Decoded.the-variants.{Known}
 use Rattle.objects.specs.declared.Encoded.the-variants.{Word}
 use Rattle.objects.specs.Asking.{ofObject, ofFixed}
-use Rattle.objects.specs.Decode.{decodeOf, decodedNumber, reservedSet}
+use Rattle.objects.specs.Decode.{decodeOf, decodedNumber}
+use Rattle.objects.specs.Reserved.{reservedSet}
 use Rattle.objects.specs.Encode.{encodeOf}
 use Rattle.objects.proofs.RoundTrip.{encode-decode}
 use Rattle.objects.proofs.Made.{made-clear, made-lt}
@@ -111,13 +113,13 @@ module _ (p : Profile) (b : NoneApply (buildRefusals p)) where
       (ap₂ (λ (d f : Decoded). outOfOrder false d f) (ap (λ (i : ℕ). decodeOf (getD ws i 0)) e ∙ known j (omega arith)) (known (suc j) h)
       ∙ ap not (follow-is p (eqb j 0) (eqb (suc j) 0) (slot j) (slot (suc j)) ∙ follows-at m high j (omega (arith, n-in))))
 
-  words-clear : (k : ℕ) → k < n → NoneApply (wordRows ws k)
+  words-clear : (k : ℕ) → k < n → NoneApply (wordRows Source ws k)
   words-clear k h =
       let g = good k h in
       let d = known k h in (
         ap (λ (x : Decoded). eqb (decodedNumber x) 12) d,
         (
-          ap (ofObject (λ (o : Object). reservedSet o (eqb k 0) (getD ws k 0))) d
+          ap (ofObject (λ (o : Object). reservedSet Source o (eqb k 0) (getD ws k 0))) d
               ∙ made-clear (objectFor p (eqb k 0) (slot k)) (getD ws k 0) (eqb k 0) (own k h) (no-flags-later p profile-clear (eqb k 0) (slot k)),
           (
             ap (ofObject outOfBounds) d ∙ in-bounds p profile-clear (eqb k 0) (slot k) g,
@@ -163,7 +165,7 @@ module _ (p : Profile) (b : NoneApply (buildRefusals p)) where
   pub shape-clear : NoneApply (shapeRefusals (builtWords p))
   shape-clear = (
     counted n n-low n-high,
-    (ap not begins, none-append (eachPlace (wordRows ws) n) (eachPlace (avsRows ws n) n) (none-all (wordRows ws) n words-clear) (none-all (avsRows ws n) n avs-clear)),
+    (ap not begins, none-append (eachPlace (wordRows Source ws) n) (eachPlace (avsRows ws n) n) (none-all (wordRows Source ws) n words-clear) (none-all (avsRows ws n) n avs-clear)),
   )
 
   -- ---- the set of objects and their currents

@@ -5,9 +5,10 @@ use mathlib.Core.Bool.{true, false}
 use mathlib.Core.List.{List, _∷_, _++_}
 use Rattle.verdicts.specs.Refusals.{Refusal, refusal, eachPlace, verdict, success, verdictOf, NoneApply}
 use Rattle.verdicts.proofs.First.{hit, miss, onward, all-missed, refused-so, numbered, numbered-append, numbered-places}
+use Rattle.objects.specs.declared.Side.the-variants.{Source}
 use Rattle.lists.specs.declared.Words.{Words}
 use Rattle.lists.specs.Shape.{shapeRefusals, shapeOf}
-use Rattle.lists.proofs.Shapes.{shape-numbered}
+use Rattle.lists.proofs.Shapes.{shape-numbered, as-shape-refused}
 use Rattle.rules.specs.declared.Profile.{Profile}
 use Rattle.rules.specs.Profiles.{profileRefusals}
 use Rattle.rules.specs.Sets.{wrongSet}
@@ -22,7 +23,7 @@ module _ (p : Profile) (l : Words) where
   pub check-numbered : numbered (checkRefusals p l) ≡ true
   check-numbered =
       numbered-append (profileRefusals p) (shapeRefusals l ++ afterShape p l) refl
-      (numbered-append (shapeRefusals l) (afterShape p l) (shape-numbered l) (numbered-places (currentRows p (l .words)) (λ k. refl) (l .count)))
+      (numbered-append (shapeRefusals l) (afterShape p l) (shape-numbered Source l) (numbered-places (currentRows p (l .words)) (λ k. refl) (l .count)))
 
   pub check-verdict : checkedOf p l ≡ verdictOf (checkRefusals p l)
   unfolding checkedOf
@@ -37,8 +38,7 @@ module _ (p : Profile) (l : Words) where
   past-profile x = onward verdict success (profileRefusals p) (shapeRefusals l ++ afterShape p l) ∙ all-missed verdict _ (profileRefusals p) x
 
   pub bad-shape : NoneApply (profileRefusals p) → (shapeOf l .number ≡ 0 → ⊥) → checkedOf p l ≡ shapeOf l
-  unfolding shapeOf
-  bad-shape x f = past-profile x ∙ onward verdict success (shapeRefusals l) (afterShape p l) ∙ refused-so verdict (shapeRefusals l) f _
+  bad-shape x f = past-profile x ∙ onward verdict success (shapeRefusals l) (afterShape p l) ∙ as-shape-refused verdict Source l _ f
 
   past-shape : NoneApply (profileRefusals p) → NoneApply (shapeRefusals l) → checkedOf p l ≡ verdictOf (afterShape p l)
   past-shape x y = past-profile x ∙ onward verdict success (shapeRefusals l) (afterShape p l) ∙ all-missed verdict _ (shapeRefusals l) y

@@ -10,6 +10,7 @@ use lib.Dec.{leb, ltb, eqb}
 use lib.ListN.{getD}
 use borrow.Author.Tests.{leb-true, ltb-true, eqb-true, not-false, ne-eqb}
 use Rattle.verdicts.specs.Refusals.{NoneApply}
+use Rattle.objects.specs.declared.Side.the-variants.{Source}
 use Rattle.objects.specs.declared.Object.{Object}
 use Rattle.objects.specs.declared.Object.the-variants as object
 use Rattle.objects.specs.declared.Decoded.{Decoded}
@@ -61,13 +62,13 @@ next NotAllowed d low known e = omega arith
 
 module _ (l : Words) (y : NoneApply (shapeRefusals l)) where
   pub word-known : (k : ℕ) → k < l .count → eqb (decodedNumber (decodeOf (getD (l .words) k 0))) 12 ≡ false
-  word-known k h = word-passes l y k h .0
+  word-known k h = word-passes Source l y k h .0
 
   step : (k : ℕ) → suc k < l .count → wordPosition (l .words) k ≤ wordPosition (l .words) (suc k)
   step k h =
-      let r = word-passes l y (suc k) h in
+      let r = word-passes Source l y (suc k) h in
       let q : suc k - 1 ≡ k = omega arith in
-      next (decodeOf (getD (l .words) k 0)) (decodeOf (getD (l .words) (suc k) 0)) (word-passes l y k (omega arith) .1 .1 .0) (r .0)
+      next (decodeOf (getD (l .words) k 0)) (decodeOf (getD (l .words) (suc k) 0)) (word-passes Source l y k (omega arith) .1 .1 .0) (r .0)
       (rw (ne-eqb (suc k) 0 (λ z. omega arith), q) at (r .1 .1 .1 .1 .0))
 
   pub words-level : (j k : ℕ) → j ≤ k → k < l .count → wordPosition (l .words) j ≤ wordPosition (l .words) k

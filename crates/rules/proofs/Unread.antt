@@ -10,6 +10,7 @@ use lib.Dec.{ltb, eqb}
 use lib.ListN.{getD}
 use Rattle.verdicts.specs.Refusals.{Refusal, refusal, eachPlace, firstOf, verdict, success, verdictOf}
 use Rattle.verdicts.proofs.First.{onward, same-places}
+use Rattle.objects.specs.declared.Side.the-variants.{Source}
 use Rattle.objects.specs.declared.Object.{Object}
 use Rattle.objects.specs.Asking.{ofObject}
 use Rattle.objects.specs.Decode.{decodeOf}
@@ -72,7 +73,7 @@ module _ (ws vs : List ℕ) (n : ℕ) (e : (k : ℕ) → k < n → getD ws k 0 �
     same-check =
         onward verdict success (profileRefusals p) _
         ∙ ap (firstOf verdict (profileRefusals p))
-        (same-past-shape ws vs n e verdict success (afterShape p (counting ws n)) (afterShape p (counting vs n)) (ap verdictOf same-after))
+        (same-past-shape Source ws vs n e verdict success (afterShape p (counting ws n)) (afterShape p (counting vs n)) (ap verdictOf same-after))
         ∙ sym (onward verdict success (profileRefusals p) _)
 
 pub check-unread : (p : Profile) (l m : Words) → AgreeWords l m → checkedOf p l ≡ checkedOf p m

@@ -39,6 +39,14 @@ onto part refused [] answer = refl
 onto part refused (refusal true n p ∷ rs) answer = refl
 onto part refused (refusal false n p ∷ rs) answer = onto part refused rs answer
 
+-- what holds of each refusal and of the answer holds of the first of them
+pub by-first : {A : Type 0} (P : A → Type 0) (refused : ℕ → ℕ → A) (rs : List Refusal) (answer : A) → ((n p : ℕ) → P (refused n p)) → P answer
+    → P (firstOf refused rs answer)
+unfolding firstOf
+by-first P refused [] answer r a = a
+by-first P refused (refusal true n p ∷ rs) answer r a = r n p
+by-first P refused (refusal false n p ∷ rs) answer r a = by-first P refused rs answer r a
+
 -- ---- no row applies
 
 pub none-append : (xs ys : List Refusal) → NoneApply xs → NoneApply ys → NoneApply (xs ++ ys)

@@ -19,10 +19,10 @@ abbrev listed : List FlatObject → ℕ → FlatObjects
 listed fs n = record { places = fs; count = n }
 
 abbrev Inv-loop : tie.InvT-loop
-Inv-loop list count places₀ i₀ places i = (i ≤ count) × (places ≡ sevenTo (flatWord (list .words)) emptyFlat i)
+Inv-loop count list places₀ i₀ places i = (i ≤ count) × (places ≡ sevenTo (flatWord (list .words)) emptyFlat i)
 
 abbrev μ-loop : tie.MeasureT-loop
-μ-loop list count places₀ i₀ places i = count - i
+μ-loop count list places₀ i₀ places i = count - i
 
 loop-holds : tie.Need-loop-holds Inv-loop μ-loop
 loop-holds c = (search needs, none-filled _ _)
@@ -63,11 +63,11 @@ loop-again c =
 
 returns : tie.Need-returns Inv-loop μ-loop
 returns c =
-    let l = c .before .before .args .t1 in
+    let x = c .before .before .args in
     let at = c .before .loop in
-    let e : at .i ≡ l .count = omega arith in
-    ap (λ (fs : List FlatObject). listed fs (l .count))
-    (at .inv .1 ∙ ap (sevenTo (flatWord (l .words)) emptyFlat) e ∙ words-flattened (l .words) (l .count))
+    let e : at .i ≡ x .count = omega arith in
+    ap (λ (fs : List FlatObject). listed fs (x .count))
+    (at .inv .1 ∙ ap (sevenTo (flatWord (x .t1 .words)) emptyFlat) e ∙ words-flattened (x .t1 .words) (x .count))
 
 pub flatten-words-spec : {M : Type 1} → statement M
 flatten-words-spec =

@@ -6,16 +6,17 @@ use Prim.Native.Nat.{ℕ}
 use Rattle.objects.specs.Encode.{encodedSays}
 use Rattle.objects.proofs.Saying.{object-says}
 use Rattle.flat.specs.declared.Raised.{Raised}
+use Rattle.flat.specs.Flat.{raisedFor}
 use Rattle.flat.specs.Writing.{encodedRaised}
-use Rattle.flat.proofs.Saying.{raised-is}
+use Rattle.flat.proofs.Saying.{raised-one}
 use Rattle.flat.proofs.writing.encode_flat.Statement.{statement}
 use Rattle.flat.proofs.writing.encode_flat.Tie as tie
 
 abbrev said : Raised → ℕ × ℕ
 said r = encodedSays (encodedRaised r)
 
-raise-requires : tie.Need-raise-requires
-raise-requires c κs = search needs
+raise-for-requires : tie.Need-raise-for-requires
+raise-for-requires c κs = search needs
 
 enum-known-raised : tie.Need-enum-known-raised
 enum-known-raised c = search needs
@@ -24,7 +25,7 @@ enum-told : tie.Need-enum-told
 enum-told c = search needs
 
 returns : tie.Need-returns
-returns c = ap said (sym (c .enum-told .given .1) ∙ raised-is _ _ (c .before .before .raise .ensures))
+returns c = ap said (sym (c .enum-told .given .1) ∙ raised-one _ (raisedFor (c .before .before .before .args .side) (c .before .before .before .args .flat)) (c .before .before .raise-for .ensures))
 
 encode-requires : tie.Need-encode-requires
 encode-requires c κs = search needs
@@ -33,7 +34,7 @@ returns-2 : tie.Need-returns-2
 returns-2 c =
     c .encode .ensures
     ∙ object-says (c .before .before .raised .given .0 .0)
-    ∙ ap said (sym (c .before .before .raised .given .1) ∙ raised-is _ _ (c .before .before .before .before .raise .ensures))
+    ∙ ap said (sym (c .before .before .raised .given .1) ∙ raised-one _ (raisedFor (c .before .before .before .before .before .args .side) (c .before .before .before .before .before .args .flat)) (c .before .before .before .before .raise-for .ensures))
 
 pub encode-flat-spec : {M : Type 1} → statement M
-encode-flat-spec = tie.close (tie.spec raise-requires enum-known-raised enum-told returns encode-requires returns-2)
+encode-flat-spec = tie.close (tie.spec raise-for-requires enum-known-raised enum-told returns encode-requires returns-2)

@@ -1,40 +1,35 @@
 -- `flat::writing::encode_places` meets its contract: the invariant is that no object passed is too wide, and the words so far are made.
 -- Assumes nothing.
 use borrow.Author.Needs.{needs}
-use mathlib.Core.Path.{_≡_, ap, ap₂, sym, _∙_, subst}
-use mathlib.Core.List.{List, []}
-use Prim.Native.Nat.{ℕ, _+_, _-_, _≤_}
+use mathlib.Core.Path.{_≡_, sym, _∙_}
+use mathlib.Core.Bool.{false}
+use Prim.Native.Nat.{ℕ, _-_, _≤_}
 use native.Mathlib.Omega.{arith}
-use lib.Dec.{eqb}
-use lib.ListN.{set}
-use Rattle.verdicts.specs.Refusals.{eachPlace, success, NoneApply}
-use Rattle.verdicts.proofs.First.{hit, none-yet, none-more, all-missed, decided}
-use Rattle.objects.specs.declared.Encoded.{Encoded}
-use Rattle.objects.specs.Encode.{encodedNumber}
 use Rattle.objects.proofs.Saying.{encoded-one}
-use Rattle.lists.specs.Seven.{sevenTo}
-use Rattle.lists.specs.declared.Listing.{Listing}
-use Rattle.lists.specs.Writing.{wideRows, wordIn, writeRefused}
-use Rattle.lists.specs.Making.{madeFrom}
-use Rattle.lists.proofs.Sevens.{none-filled, one-filled}
+use Rattle.lists.specs.Shape.{badCount}
+use Rattle.lists.proofs.Shapes.{count-high}
+use Rattle.lists.proofs.Writings.{not-made, MadeTo, none-made, one-made, one-wide, all-made}
 use Rattle.flat.specs.Writing.{encodedFlatAt}
 use Rattle.flat.proofs.writing.encode_places.Statement.{statement}
 use Rattle.flat.proofs.writing.encode_places.Tie as tie
 
-abbrev made : List ℕ → ℕ → Listing
-made ws n = record { verdict = success; list = record { words = ws; count = n } }
-
 abbrev Inv-loop : tie.InvT-loop
-Inv-loop list count words₀ i₀ words i =
-    (i ≤ count)
-    × (NoneApply (eachPlace (wideRows (encodedFlatAt (list .places))) i))
-    × (words ≡ sevenTo (λ (k : ℕ). wordIn (encodedFlatAt (list .places) k)) 0 i)
+Inv-loop side list count words₀ i₀ words i = (i ≤ count) × (count ≤ 7) × (badCount count ≡ false) × MadeTo (encodedFlatAt side (list .places)) i words
 
 abbrev μ-loop : tie.MeasureT-loop
-μ-loop list count words₀ i₀ words i = count - i
+μ-loop side list count words₀ i₀ words i = count - i
+
+bad-count-requires : tie.Need-bad-count-requires Inv-loop μ-loop
+bad-count-requires c κs = search needs
+
+refuse-requires : tie.Need-refuse-requires Inv-loop μ-loop
+refuse-requires c κs = search needs
+
+returns : tie.Need-returns Inv-loop μ-loop
+returns c = c .refuse .ensures ∙ not-made _ _ (sym (c .before .before .bad-count .ensures) ∙ c .before .if1 .taken)
 
 loop-holds : tie.Need-loop-holds Inv-loop μ-loop
-loop-holds c = (search needs, none-yet _, none-filled _ _)
+loop-holds c = let b = sym (c .before .bad-count .ensures) ∙ c .if1 .left in (search needs, count-high _ b, b, none-made _)
 
 cast-at : tie.Need-cast-at Inv-loop μ-loop
 cast-at c = search needs
@@ -57,18 +52,17 @@ enum-told c = search needs
 add-refuse : tie.Need-add-refuse Inv-loop μ-loop
 add-refuse c = search needs
 
-refuse-requires : tie.Need-refuse-requires Inv-loop μ-loop
-refuse-requires c κs = search needs
+refuse-requires-2 : tie.Need-refuse-requires-2 Inv-loop μ-loop
+refuse-requires-2 c κs = search needs
 
-returns : tie.Need-returns Inv-loop μ-loop
-unfolding madeFrom
-returns c =
-    let l = c .before .before .before .before .before .before .before .args .t1 in
+returns-2 : tie.Need-returns-2 Inv-loop μ-loop
+returns-2 c =
+    let l = c .before .before .before .before .before .before .before .before .before .args .t2 in
+    let side = c .before .before .before .before .before .before .before .before .before .args .side in
     let at = c .before .before .before .before .before .before .loop in
-    let e = ap (λ (x : Encoded). eqb (encodedNumber x) 7) (sym (encoded-one _ (encodedFlatAt (l .places) (at .i)) (c .before .before .before .encode-flat .ensures)) ∙ c .before .enum-told .given .1) in
-    c .refuse .ensures
-    ∙ sym (decided (wideRows (encodedFlatAt (l .places))) writeRefused (at .i) (l .count) _ (c .before .before .before .before .before .loop-test .taken) (at .inv .1)
-    (λ (x : Listing). hit writeRefused x 7 (at .i + 1) [] e) _)
+    c .refuse2 .ensures
+    ∙ one-wide (encodedFlatAt side (l .places)) (at .i) (l .count) (at .words) (at .inv .2) (c .before .before .before .before .before .loop-test .taken) (at .inv .3)
+    (sym (encoded-one _ (encodedFlatAt side (l .places) (at .i)) (c .before .before .before .encode-flat .ensures)) ∙ c .before .enum-told .given .1)
 
 mul-words : tie.Need-mul-words Inv-loop μ-loop
 mul-words c = search needs
@@ -84,23 +78,18 @@ loop-less c = search needs
 
 loop-again : tie.Need-loop-again Inv-loop μ-loop
 loop-again c =
-    let l = c .before .before .before .before .before .before .before .args .t1 in
-    let at = c .before .before .before .before .before .before .loop in
-    let d = sym (encoded-one _ (encodedFlatAt (l .places) (at .i)) (c .before .before .before .encode-flat .ensures)) ∙ c .before .e .given .1 in (
+    let l = c .before .before .before .before .before .before .before .before .before .args .t2 in
+    let side = c .before .before .before .before .before .before .before .before .before .args .side in
+    let at = c .before .before .before .before .before .before .loop in (
       omega arith,
-      none-more (wideRows (encodedFlatAt (l .places))) (at .i) (at .inv .1) (ap (λ (x : Encoded). eqb (encodedNumber x) 7) d, tt),
-      ap₂ (λ (ws : List ℕ) (w : ℕ). set ws (at .i) w) (at .inv .2) (sym (ap wordIn d))
-          ∙ one-filled (λ (k : ℕ). wordIn (encodedFlatAt (l .places) k)) 0 (at .i) (omega arith),
+      at .inv .1,
+      at .inv .2,
+      one-made (encodedFlatAt side (l .places)) (at .i) _ (at .words) (omega arith) (at .inv .3)
+          (sym (encoded-one _ (encodedFlatAt side (l .places) (at .i)) (c .before .before .before .encode-flat .ensures)) ∙ c .before .e .given .1),
     )
 
-returns-2 : tie.Need-returns-2 Inv-loop μ-loop
-unfolding madeFrom
-returns-2 c =
-    let l = c .before .before .args .t1 in
-    let at = c .before .loop in
-    let e : at .i ≡ l .count = omega arith in
-    ap (λ (ws : List ℕ). made ws (l .count)) (at .inv .2 ∙ ap (sevenTo (λ (k : ℕ). wordIn (encodedFlatAt (l .places) k)) 0) e)
-    ∙ sym (all-missed writeRefused _ _ (subst (λ (n : ℕ). NoneApply (eachPlace (wideRows (encodedFlatAt (l .places))) n)) e (at .inv .1)))
+returns-3 : tie.Need-returns-3 Inv-loop μ-loop
+returns-3 c = all-made _ _ _ _ (c .before .loop .inv .2) (omega arith) (c .before .loop .inv .3)
 
 pub encode-places-spec : {M : Type 1} → statement M
 encode-places-spec =
@@ -108,6 +97,9 @@ encode-places-spec =
     (tie.spec
     Inv-loop
     μ-loop
+    bad-count-requires
+    refuse-requires
+    returns
     loop-holds
     cast-at
     mul-flat
@@ -116,11 +108,11 @@ encode-places-spec =
     enum-known-e
     enum-told
     add-refuse
-    refuse-requires
-    returns
+    refuse-requires-2
+    returns-2
     mul-words
     array-write-words
     add-i
     loop-less
     loop-again
-    returns-2)
+    returns-3)

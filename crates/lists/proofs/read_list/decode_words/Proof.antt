@@ -25,10 +25,10 @@ abbrev listed : List Place → ℕ → Objects
 listed ps n = record { places = ps; count = n }
 
 abbrev Inv-loop : tie.InvT-loop
-Inv-loop list count places₀ i₀ places i = (i ≤ count) × (places ≡ sevenTo (placeOf (list .words)) emptyPlace i)
+Inv-loop count list places₀ i₀ places i = (i ≤ count) × (places ≡ sevenTo (placeOf (list .words)) emptyPlace i)
 
 abbrev μ-loop : tie.MeasureT-loop
-μ-loop list count places₀ i₀ places i = count - i
+μ-loop count list places₀ i₀ places i = count - i
 
 loop-holds : tie.Need-loop-holds Inv-loop μ-loop
 loop-holds c = (search needs, none-filled _ _)
@@ -80,10 +80,10 @@ loop-again c =
 
 returns : tie.Need-returns Inv-loop μ-loop
 returns c =
-    let l = c .before .before .args .t1 in
+    let x = c .before .before .args in
     let at = c .before .loop in
-    let e : at .i ≡ l .count = omega arith in
-    ap (λ (ps : List Place). listed ps (l .count)) (at .inv .1 ∙ ap (sevenTo (placeOf (l .words)) emptyPlace) e)
+    let e : at .i ≡ x .count = omega arith in
+    ap (λ (ps : List Place). listed ps (x .count)) (at .inv .1 ∙ ap (sevenTo (placeOf (x .t1 .words)) emptyPlace) e)
 
 pub decode-words-spec : {M : Type 1} → statement M
 decode-words-spec =

@@ -1,41 +1,34 @@
--- `lists::read` meets its contract: it refuses as the shape check does.
+-- `lists::read` meets its contract: the objects of the words that there are to read.
 -- Assumes nothing.
-use mathlib.Core.Path.{_≡_, refl, ap, sym, _∙_, subst}
-use Prim.Native.Nat.{ℕ, _≤_}
+use borrow.Author.Needs.{needs}
+use mathlib.Core.Path.{ap, sym, _∙_, subst}
+use Prim.Native.Nat.{_≤_}
 use Rattle.verdicts.specs.declared.Verdict.{Verdict}
+use Rattle.objects.specs.declared.Side.the-variants.{Source}
+use Rattle.lists.specs.declared.Shaped.{Shaped}
 use Rattle.lists.specs.declared.Objects.{Objects}
 use Rattle.lists.specs.declared.Reading.{Reading}
-use Rattle.lists.specs.Shape.{shapeOf}
-use Rattle.lists.specs.Reading.{noObjects}
-use Rattle.lists.proofs.Shapes.{none-of, count-high}
-use Rattle.lists.proofs.Readings.{shape-success, read-refused, read-passes}
-use borrow.Author.Needs.{needs}
+use Rattle.lists.specs.Reading.{objectsTo}
+use Rattle.lists.proofs.Shapes.{shaped-count}
+use Rattle.lists.proofs.Readings.{read-shaped}
 use Rattle.lists.proofs.read_list.read.Statement.{statement}
 use Rattle.lists.proofs.read_list.read.Tie as tie
 
-abbrev given : Verdict → Objects → Reading
-given v o = record { verdict = v; list = o }
+abbrev reading : Verdict → Objects → Reading
+reading v o = record { verdict = v; list = o }
 
-passed : (c : tie.Else1) → shapeOf (c .before .before .before .args .list) .number ≡ 0
-passed c = sym (ap (λ (v : Verdict). v .number) (c .before .before .shape .ensures)) ∙ c .if1 .left
+readable-requires : tie.Need-readable-requires
+readable-requires c κs = search needs
 
-shape-requires : tie.Need-shape-requires
-shape-requires c κs = search needs
+decode-words-requires : tie.Need-decode-words-requires
+decode-words-requires c κs = subst (λ (s : Shaped). s .count ≤ 7) (sym (c .before .readable .ensures)) (shaped-count Source _)
 
 returns : tie.Need-returns
 returns c =
-    let e = c .before .before .shape .ensures in
-    ap (λ (v : Verdict). given v noObjects) e ∙ sym (read-refused _ (λ z. c .if1 .taken (ap (λ (v : Verdict). v .number) e ∙ z)))
-
-decode-words-requires : tie.Need-decode-words-requires
-decode-words-requires c κs = count-high _ (none-of _ (passed c) .0)
-
-returns-2 : tie.Need-returns-2
-returns-2 c =
-    let n = passed (c .before) in
-    ap (λ (v : Verdict). given v (c .decode-words .result)) (c .before .before .before .shape .ensures ∙ shape-success _ n)
-    ∙ ap (given _) (c .decode-words .ensures)
-    ∙ sym (read-passes _ n)
+    let l = c .before .before .before .args .list in
+    ap (reading (c .before .before .readable .result .verdict)) (c .decode-words .ensures)
+    ∙ ap (λ (s : Shaped). reading (s .verdict) (objectsTo (l .words) (s .count))) (c .before .before .readable .ensures)
+    ∙ read-shaped Source l
 
 pub read-spec : {M : Type 1} → statement M
-read-spec = tie.close (tie.spec shape-requires returns decode-words-requires returns-2)
+read-spec = tie.close (tie.spec readable-requires decode-words-requires returns)

@@ -5,8 +5,9 @@ use mathlib.Core.Bool.{Bool, true, false}
 use Prim.Native.Nat.{ℕ}
 use Rattle.objects.specs.declared.Object.{Object}
 use Rattle.objects.specs.declared.Decoded.the-variants.{Known, NotAllowed}
-use Rattle.objects.specs.Decode.{decodeOf, reservedSet}
-use Rattle.objects.proofs.Saying.{decoded-is}
+use Rattle.objects.specs.Decode.{decodeFor}
+use Rattle.objects.specs.Reserved.{reservedSet}
+use Rattle.objects.proofs.Saying.{decoded-for}
 use Rattle.lists.specs.ObjectRules.{outOfBounds, over100W}
 use Rattle.lists.specs.declared.shape_check.Judged.the-variants.{Fine, Refused}
 use Rattle.lists.proofs.Judging.{not-known, reserved, bound, power, order, fine, in-order, out-of-order, first-in-order}
@@ -15,10 +16,10 @@ use Rattle.lists.proofs.shape_check.judge.Statement.{statement}
 use Rattle.lists.proofs.shape_check.judge.Tie as tie
 
 -- what each test passed says of the object bound
-known : (c : tie.After-reserved-bit-set) → decodeOf (c .before .before .before .before .before .args .w) ≡ Known (c .before .before .d .given .0 .0)
-known c = sym (decoded-is _ _ (c .before .before .before .before .decode .ensures)) ∙ c .before .before .d .given .1
+known : (c : tie.After-reserved-bit-set) → decodeFor (c .before .before .before .before .before .args .side) (c .before .before .before .before .before .args .w) ≡ Known (c .before .before .d .given .0 .0)
+known c = sym (decoded-for (c .before .before .before .before .before .args .side) (c .before .before .before .before .before .args .w) _ (c .before .before .before .before .decode-for .ensures)) ∙ c .before .before .d .given .1
 
-clear : (c : tie.Else1) → reservedSet (c .before .before .before .d .given .0 .0) (c .before .before .before .before .before .before .args .first) (c .before .before .before .before .before .before .args .w) ≡ false
+clear : (c : tie.Else1) → reservedSet (c .before .before .before .before .before .before .args .side) (c .before .before .before .d .given .0 .0) (c .before .before .before .before .before .before .args .first) (c .before .before .before .before .before .before .args .w) ≡ false
 clear c = sym (c .before .reserved-bit-set .ensures) ∙ c .if1 .left
 
 bounded : (c : tie.Else2) → outOfBounds (c .before .before .before .before .before .d .given .0 .0) ≡ false
@@ -27,8 +28,8 @@ bounded c = sym (c .before .out-of-bounds .ensures) ∙ c .if2 .left
 limited : (c : tie.Else3) → over100W (c .before .before .before .before .before .before .before .d .given .0 .0) ≡ false
 limited c = sym (c .before .over-100-w .ensures) ∙ c .if3 .left
 
-decode-requires : tie.Need-decode-requires
-decode-requires c κs = search needs
+decode-for-requires : tie.Need-decode-for-requires
+decode-for-requires c κs = search needs
 
 enum-known-d : tie.Need-enum-known-d
 enum-known-d c = search needs
@@ -37,33 +38,35 @@ enum-told : tie.Need-enum-told
 enum-told c = search needs
 
 returns : tie.Need-returns
-returns c before r = sym (not-known _ _ before _ (sym (decoded-is _ _ (c .before .before .decode .ensures)) ∙ c .enum-told .given .1))
+returns c before r =
+    let a = c .before .before .before .args in
+    sym (not-known (a .side) _ _ before (a .w) (sym (decoded-for (a .side) (a .w) _ (c .before .before .decode-for .ensures)) ∙ c .enum-told .given .1))
 
 reserved-bit-set-requires : tie.Need-reserved-bit-set-requires
 reserved-bit-set-requires c κs = search needs
 
 returns-2 : tie.Need-returns-2
-returns-2 c before r = sym (reserved _ _ before _ _ (known (c .before)) (sym (c .before .reserved-bit-set .ensures) ∙ c .if1 .taken))
+returns-2 c before r = sym (reserved _ _ _ before _ _ (known (c .before)) (sym (c .before .reserved-bit-set .ensures) ∙ c .if1 .taken))
 
 out-of-bounds-requires : tie.Need-out-of-bounds-requires
 out-of-bounds-requires c κs = search needs
 
 returns-3 : tie.Need-returns-3
 returns-3 c before r =
-    sym (bound _ _ before _ _ (known (c .before .before .before)) (clear (c .before .before)) (sym (c .before .out-of-bounds .ensures) ∙ c .if2 .taken))
+    sym (bound _ _ _ before _ _ (known (c .before .before .before)) (clear (c .before .before)) (sym (c .before .out-of-bounds .ensures) ∙ c .if2 .taken))
 
 over-100-w-requires : tie.Need-over-100-w-requires
 over-100-w-requires c κs = search needs
 
 returns-4 : tie.Need-returns-4
 returns-4 c before r =
-    sym (power _ _ before _ _ (known (c .before .before .before .before .before)) (clear (c .before .before .before .before))
+    sym (power _ _ _ before _ _ (known (c .before .before .before .before .before)) (clear (c .before .before .before .before))
     (bounded (c .before .before)) (sym (c .before .over-100-w .ensures) ∙ c .if3 .taken))
 
 returns-5 : tie.Need-returns-5
 returns-5 c before r =
     let s = c .before in
-    sym (fine _ _ before _ _ (known (s .before .before .before .before .before)) (clear (s .before .before .before .before))
+    sym (fine _ _ _ before _ _ (known (s .before .before .before .before .before)) (clear (s .before .before .before .before))
     (bounded (s .before .before)) (limited s) (first-in-order
     (s .before .before .before .before .before .before .before .before .before .before .args .first)
     before
@@ -75,7 +78,7 @@ may-follow-requires c κs = search needs
 returns-6 : tie.Need-returns-6
 returns-6 c before r =
     let s = c .before .before .before in
-    sym (fine _ _ before _ _ (known (s .before .before .before .before .before)) (clear (s .before .before .before .before))
+    sym (fine _ _ _ before _ _ (known (s .before .before .before .before .before)) (clear (s .before .before .before .before))
     (bounded (s .before .before)) (limited s) (in-order
     (s .before .before .before .before .before .before .before .before .before .before .args .first)
     before
@@ -84,7 +87,7 @@ returns-6 c before r =
 returns-7 : tie.Need-returns-7
 returns-7 c before r =
     let s = c .before .before .before in
-    sym (order _ _ before _ _ (known (s .before .before .before .before .before)) (clear (s .before .before .before .before))
+    sym (order _ _ _ before _ _ (known (s .before .before .before .before .before)) (clear (s .before .before .before .before))
     (bounded (s .before .before)) (limited s)
     (out-of-order (s .before .before .before .before .before .before .before .before .before .before .args .first)
     before
@@ -95,7 +98,7 @@ pub judge-spec : {M : Type 1} → statement M
 judge-spec =
     tie.close
     (tie.spec
-    decode-requires
+    decode-for-requires
     enum-known-d
     enum-told
     returns

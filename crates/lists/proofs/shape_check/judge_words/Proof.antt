@@ -9,7 +9,7 @@ use lib.Dec.{eqb}
 use lib.ListN.{getD}
 use Rattle.verdicts.specs.Refusals.{eachPlace, verdict, success, NoneApply}
 use Rattle.verdicts.proofs.First.{none-yet, none-more, all-missed, decided}
-use Rattle.objects.specs.Decode.{decodeOf}
+use Rattle.objects.specs.Decode.{decodeFor}
 use Rattle.lists.specs.Shape.{wordRows}
 use Rattle.lists.specs.Scanning.{OnlyAvs}
 use Rattle.objects.specs.Decode.{zeroObject}
@@ -20,21 +20,21 @@ use Rattle.lists.proofs.shape_check.judge_words.Statement.{statement}
 use Rattle.lists.proofs.shape_check.judge_words.Tie as tie
 
 abbrev Inv-loop : tie.InvT-loop
-Inv-loop list count before₀ avs₀ i₀ before avs i =
+Inv-loop side list count before₀ avs₀ i₀ before avs i =
     (i ≤ count)
-    × (NoneApply (eachPlace (wordRows (list .words)) i))
-    × (Before (list .words) i before)
-    × (Alone (list .words) i (before .rank) avs)
+    × (NoneApply (eachPlace (wordRows side (list .words)) i))
+    × (Before side (list .words) i before)
+    × (Alone side (list .words) i (before .rank) avs)
 
 abbrev μ-loop : tie.MeasureT-loop
-μ-loop list count before₀ avs₀ i₀ before avs i = count - i
+μ-loop side list count before₀ avs₀ i₀ before avs i = count - i
 
 loop-holds : tie.Need-loop-holds Inv-loop μ-loop
 loop-holds c = (
   search needs,
   none-yet _,
   record { object = zeroObject; stands = refl; decoded = λ h. absurd (omega arith) },
-  none-seen _,
+  none-seen _ _,
 )
 
 cast-at : tie.Need-cast-at Inv-loop μ-loop
@@ -60,15 +60,16 @@ enum-known-j-2 c = search needs
 
 returns : tie.Need-returns Inv-loop μ-loop
 returns c =
-    let l = c .before .before .before .before .before .before .before .args .t1 in
+    let l = c .before .before .before .before .before .before .before .args .t2 in
+    let side = c .before .before .before .before .before .before .before .args .side in
     let at = c .before .before .before .before .before .before .loop in
     let b = at .inv .2 in
     let h = c .before .before .before .before .before .loop-test .taken in
     let v = c .before .j2 .given .0 .0 in
-    let r = refused-word (l .words) (at .i) (b .object) (b .decoded) v
+    let r = refused-word side (l .words) (at .i) (b .object) (b .decoded) v
     (sym (c .before .before .before .judge .ensures (b .object) (b .stands)) ∙ c .before .j2 .given .1) in
-    let e = sym (decided (wordRows (l .words)) verdict (at .i) (l .count) v h (at .inv .1) r success) in
-    (e, λ z. absurd (refused-number (l .words) (l .count) (at .i) v h e r z))
+    let e = sym (decided (wordRows side (l .words)) verdict (at .i) (l .count) v h (at .inv .1) r success) in
+    (e, λ z. absurd (refused-number side (l .words) (l .count) (at .i) v h e r z))
 
 standing-of-requires : tie.Need-standing-of-requires Inv-loop μ-loop
 standing-of-requires c κs = search needs
@@ -84,35 +85,37 @@ loop-less c = search needs
 
 loop-again : tie.Need-loop-again Inv-loop μ-loop
 loop-again c =
-    let l = c .before .before .before .before .before .before .before .before .before .args .t1 in
+    let l = c .before .before .before .before .before .before .before .before .before .args .t2 in
+    let side = c .before .before .before .before .before .before .before .before .before .args .side in
     let at = c .before .before .before .before .before .before .before .before .loop in
     let b = at .inv .2 in
     let j = c .before .before .before .j .given in
     let e = sym (c .before .before .before .before .before .judge .ensures (b .object) (b .stands)) ∙ j .1 in
     let z : at .i + 1 - 1 ≡ at .i = omega arith in
-    let clear = fine-word (l .words) (at .i) (b .object) (b .decoded) _ e in
-    let d = fine-object _ _ _ _ _ e in
+    let clear = fine-word side (l .words) (at .i) (b .object) (b .decoded) _ e in
+    let d = fine-object side _ _ _ _ _ e in
     let s = c .before .standing-of in
     let r = rank-in (j .0 .0) (sym (s .ensures)) in (
       omega arith,
-      none-more (wordRows (l .words)) (at .i) (at .inv .1) clear,
+      none-more (wordRows side (l .words)) (at .i) (at .inv .1) clear,
       record {
         object = j .0 .0;
         stands = sym (s .ensures);
-        decoded = λ h. ap (λ (k : ℕ). decodeOf (getD (l .words) k 0)) z ∙ d;
+        decoded = λ h. ap (λ (k : ℕ). decodeFor side (getD (l .words) k 0)) z ∙ d;
       },
-      subst (λ (p : ℕ). Alone (l .words) (at .i + 1) (s .result .rank) p) (sym (c .avs-place .ensures))
-          (subst (λ (n : ℕ). Alone (l .words) (at .i + 1) n (cond (eqb n 3) (at .i + 1) (at .avs))) r
-          (one-more (l .words) (at .i) (at .avs) (at .before) (at .inv .3) b clear (j .0 .0) d)),
+      subst (λ (p : ℕ). Alone side (l .words) (at .i + 1) (s .result .rank) p) (sym (c .avs-place .ensures))
+          (subst (λ (n : ℕ). Alone side (l .words) (at .i + 1) n (cond (eqb n 3) (at .i + 1) (at .avs))) r
+          (one-more side (l .words) (at .i) (at .avs) (at .before) (at .inv .3) b clear (j .0 .0) d)),
     )
 
 returns-2 : tie.Need-returns-2 Inv-loop μ-loop
 returns-2 c =
-    let l = c .before .before .args .t1 in
+    let l = c .before .before .args .t2 in
+    let side = c .before .before .args .side in
     let at = c .before .loop in
     let e : at .i ≡ l .count = omega arith in (
-      sym (all-missed verdict success _ (subst (λ (n : ℕ). NoneApply (eachPlace (wordRows (l .words)) n)) e (at .inv .1))),
-      λ z. subst (λ (n : ℕ). OnlyAvs (l .words) n (at .avs)) e (at .inv .3 .only),
+      sym (all-missed verdict success _ (subst (λ (n : ℕ). NoneApply (eachPlace (wordRows side (l .words)) n)) e (at .inv .1))),
+      λ z. subst (λ (n : ℕ). OnlyAvs side (l .words) n (at .avs)) e (at .inv .3 .only),
     )
 
 pub judge-words-spec : {M : Type 1} → statement M

@@ -4,6 +4,7 @@ use borrow.Author.Needs.{needs}
 use mathlib.Core.Path.{ap, sym, _∙_}
 use mathlib.Core.List.{List}
 use Rattle.verdicts.specs.Refusals.{Refusal, firstOf, verdictOf}
+use Rattle.objects.specs.declared.Side.the-variants.{Source}
 use Rattle.lists.proofs.Shapes.{shape-verdict}
 use Rattle.messages.specs.Refusing.{listIn}
 use Rattle.messages.proofs.Refusals.{no-list, a-list}
@@ -26,7 +27,7 @@ returns-2 : tie.Need-returns-2
 returns-2 c =
     let m = c .before .before .before .before .before .args .message in
     c .shape .ensures
-    ∙ shape-verdict (listIn m)
+    ∙ shape-verdict Source (listIn m)
     ∙ sym (ap (λ (rs : List Refusal). verdictOf rs) (a-list m (c .before .before .if1 .left)))
 
 pub judge-list-spec : {M : Type 1} → statement M

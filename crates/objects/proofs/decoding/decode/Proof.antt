@@ -6,6 +6,7 @@ use Prim.Native.Nat.{ℕ, _+_}
 use native.Mathlib.Omega.{arith}
 use Rattle.objects.specs.Bits.{bits}
 use Rattle.objects.specs.Decode.{byAugmented, decodeOf, decodedSays, wordSays}
+use Rattle.objects.specs.declared.Side.the-variants.{Source}
 use Rattle.objects.specs.declared.Decoded.{Decoded}
 use Rattle.objects.specs.declared.Decoded.the-variants.{Known}
 use Rattle.objects.proofs.Saying.{word-says}
@@ -26,7 +27,7 @@ is-augmented c =
 
 -- an answer that is the definition's says what is to be said
 says : (w : ℕ) (r : Decoded) → r ≡ decodeOf w → decodedSays r ≡ wordSays w
-says w r e = ap decodedSays e ∙ sym (word-says w)
+says w r e = ap decodedSays e ∙ sym (word-says Source w)
 
 -- 11b with its last two bits
 augmented : (c : tie.At-match-rest) (m : ℕ) → bits (c .before .args .w) 31 28 ≡ 12 + m → decodeOf (c .before .args .w) ≡ byAugmented m (c .before .args .w)

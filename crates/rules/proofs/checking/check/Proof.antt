@@ -5,6 +5,7 @@ use Prim.Native.Nat.{ℕ, _≤_}
 use Rattle.verdicts.specs.declared.Verdict.{Verdict}
 use Rattle.verdicts.specs.Refusals.{NoneApply}
 use Rattle.verdicts.proofs.First.{none-applied}
+use Rattle.objects.specs.declared.Side.the-variants.{Source}
 use Rattle.lists.specs.Shape.{shapeRefusals}
 use Rattle.lists.proofs.Shapes.{none-of, count-high}
 use Rattle.rules.specs.declared.checking.Walk.{Walk}
@@ -31,7 +32,7 @@ clear c =
     (sym (ap number (c .before .before .judge-profile .ensures)) ∙ c .if1 .left)
 
 shaped : (c : tie.Else2) → NoneApply (shapeRefusals (c .before .before .before .before .before .before .args .list))
-shaped c = none-of _ (sym (ap number (c .before .before .shape .ensures)) ∙ c .if2 .left)
+shaped c = none-of Source _ (sym (ap number (c .before .before .shape .ensures)) ∙ c .if2 .left)
 
 abbrev start : tie.After-follow-avs → tie.Start
 start c = c .before .before .before .before .before .before .before .before
