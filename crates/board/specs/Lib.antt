@@ -1,4 +1,5 @@
 pub mod ListPromises
+pub mod SinkPromises
 pub mod MessagePromises
 pub mod Rows
 pub mod Promises

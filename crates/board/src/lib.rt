@@ -1,9 +1,10 @@
-// What firmware calls: the sharing calls over lent rows (docs/STATEMENT.md, "Ports that share"), every call on lists, and whole
-// messages, each under a C name that begins with `arin_`. `rt staticlib board` makes one archive of them.
+// What firmware calls: the sharing calls over lent rows (docs/STATEMENT.md, "Ports that share"), every call on lists, those of
+// sinks too, and whole messages, each under a C name that begins with `arin_`. `rt staticlib board` makes one archive of them.
 mod listing;
 mod messaging;
 mod rows;
 mod sharing;
+mod sinking;
 
 pub use listing::arin_answer;
 pub use listing::arin_build;
@@ -21,3 +22,7 @@ pub use sharing::arin_detach;
 pub use sharing::arin_remaining;
 pub use sharing::arin_request;
 pub use sharing::arin_set_up;
+pub use sinking::arin_sink_check;
+pub use sinking::arin_sink_read;
+pub use sinking::arin_sink_shape;
+pub use sinking::arin_sink_write;

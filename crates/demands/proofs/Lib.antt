@@ -1,6 +1,7 @@
 pub mod Refusals
 pub mod EnumRefusals
 pub mod FlatRefusals
+pub mod SinkRefusals
 pub mod SharingRefusals
 pub mod DecidingRefusals
 pub mod MessageRefusals
@@ -21,6 +22,9 @@ pub mod RequestNumbers
 pub mod Ignored
 pub mod At15V
 pub mod MarkedCases
+pub mod SinkRoundTrips
+pub mod SinkUnread
+pub mod Ceilings
 pub mod Messages
 pub mod SoundRows
 pub mod Kept
@@ -29,6 +33,7 @@ pub mod BuiltLists
 pub mod DueAnswers
 pub mod OneOutcome
 pub mod FlatOutcomes
+pub mod SinkOutcomes
 pub mod MessageOutcomes
 pub mod RightLibrary
 pub mod NoCurrent

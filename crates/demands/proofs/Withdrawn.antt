@@ -12,7 +12,7 @@ use Rattle.verdicts.specs.declared.Verdict.{Verdict}
 use Rattle.verdicts.specs.Refusals.{Refusal, refusal}
 use Rattle.verdicts.proofs.First.{numbered, Without, without-append, without-numbered, not-first}
 use Rattle.objects.specs.declared.Side.{Side}
-use Rattle.objects.specs.declared.Side.the-variants.{Source}
+use Rattle.objects.specs.declared.Side.the-variants.{Source, Sink}
 use Rattle.lists.specs.declared.Words.{Words}
 use Rattle.lists.specs.declared.Listing.{Listing}
 use Rattle.lists.specs.Shape.{refusalsFor, shapeRefusals}
@@ -39,6 +39,9 @@ use Rattle.messages.specs.Reading.{takingRefusals, readingRefusals}
 use Rattle.messages.specs.Writing.{writingRefusals}
 use Rattle.messages.proofs.Readings.{taking-numbered, reading-numbered}
 use Rattle.messages.proofs.Writings.{writing-numbered}
+use Rattle.sinks.specs.SinkLists.{sinkShapeRefusals, sinkEncodedAt, sinkWriteRefusals}
+use Rattle.sinks.specs.Rating.{sinkCheckRefusals}
+use Rattle.sinks.proofs.Checks.{sink-check-numbered}
 use Rattle.flat.specs.declared.FlatObjects.{FlatObjects}
 use Rattle.flat.specs.declared.FlatReading.{FlatReading}
 use Rattle.flat.specs.Writing.{encodedFlatAt, flatWriteRefusals}
@@ -51,6 +54,7 @@ use Rattle.demands.specs.Withdrawn.{Not21, Never21}
 use Rattle.demands.proofs.Refusals.{shape-for-refusals, readable-refusals, finished-refusals, read-refusals, write-refusals, default-refusals, build-refusals, check-refusals, answer-refusals, judge-refusals}
 use Rattle.demands.proofs.EnumRefusals.{decode-12, decode-for-12, encode-7, fixed-word-7, pps-word-7, avs-word-7, word-at-20, raise-12}
 use Rattle.demands.proofs.FlatRefusals.{flat-read-for-refusals, flat-write-for-refusals}
+use Rattle.demands.proofs.SinkRefusals.{sink-decode-12, sink-encode-7, sink-read-refusals, sink-write-refusals, sink-check-refusals, arin-sink-check-refusals}
 use Rattle.demands.proofs.MessageRefusals.{take-message-refusals, read-message-refusals, write-message-refusals, arin-take-message-refusals, arin-read-message-refusals, arin-write-message-refusals}
 use Rattle.demands.proofs.SharingRefusals.{set-up-refusals, attach-refusals, advertise-refusals, request-refusals, detach-refusals, remaining-refusals}
 use Rattle.demands.proofs.DecidingRefusals.{begin-refusals, take-row-refusals, attach-decides, advertise-decides, offer-refusals, request-decides, detach-decides, remaining-decides}
@@ -135,6 +139,13 @@ never-21 = record {
   check = λ p l r e. not-numbered r (checkRefusals p l) (check-refusals p l r e) (check-numbered p l);
   judge = λ o w r e. not-numbered r (refusalsOf o w) (judge-refusals o w r e) (judged-numbered o w);
   answer = λ l w r e. not-numbered r (answerRefusals l w) (answer-refusals l w r e) (answer-numbered l w);
+  sink-decode = λ w r e. not-one (λ z. absurd (omega (arith, z))) (sink-decode-12 w r e);
+  sink-encode = λ o r e. not-one (λ z. absurd (omega (arith, z))) (sink-encode-7 o r e);
+  sink-shape = λ l r e. shape-for-21 Sink l r e;
+  sink-read = λ l r e. not-numbered (r .verdict) (sinkShapeRefusals l) (sink-read-refusals l r e .0) (shape-numbered Sink l);
+  sink-write = λ o r e.
+      not-numbered (r .verdict) (sinkWriteRefusals o) (sink-write-refusals o r e .0) (write-numbered Sink (sinkEncodedAt (o .places)) (o .count));
+  sink-check = λ rating l r e. not-numbered r (sinkCheckRefusals (rating .0) l) (sink-check-refusals rating l r e) (sink-check-numbered (rating .0) l);
   take-message = λ bs r e. not-numbered (r .verdict) (takingRefusals bs) (take-message-refusals bs r e .0) (taking-numbered bs);
   read-message = λ bs r e. not-numbered (r .verdict) (readingRefusals bs) (read-message-refusals bs r e .0) (reading-numbered bs);
   write-message = λ bs m r cs e.
@@ -173,6 +184,10 @@ never-21 = record {
   arin-read = λ l r e. flat-read-for-21 Source l r e;
   arin-write = λ f r e. flat-write-for-21 Source f r e;
   arin-answer = λ l w r e. not-numbered r (answerRefusals l w) (answer-refusals l w r e) (answer-numbered l w);
+  arin-sink-shape = λ l r e. shape-for-21 Sink l r e;
+  arin-sink-read = λ l r e. flat-read-for-21 Sink l r e;
+  arin-sink-write = λ f r e. flat-write-for-21 Sink f r e;
+  arin-sink-check = λ rating l r e. not-numbered r (sinkCheckRefusals rating l) (arin-sink-check-refusals rating l r e) (sink-check-numbered rating l);
   arin-take-message = λ bs r e. not-numbered (r .verdict) (takingRefusals bs) (arin-take-message-refusals bs r e .0) (taking-numbered bs);
   arin-read-message = λ bs r e. not-numbered (r .verdict) (readingRefusals bs) (arin-read-message-refusals bs r e .0) (reading-numbered bs);
   arin-write-message = λ bs m r cs e.

@@ -5,10 +5,12 @@
 -- What the calls promise, by name
 pub mod CallContracts
 pub mod FlatContracts
+pub mod SinkContracts
 -- Demand 1, refusals: the first refusal that applies is given, with its place, and nothing else with it
 pub mod Refusals
 pub mod EnumRefusals
 pub mod FlatRefusals
+pub mod SinkRefusals
 pub mod SharingRefusals
 pub mod DecidingRefusals
 pub mod MessageRefusals
@@ -30,6 +32,10 @@ pub mod RequestNumbers
 pub mod Ignored
 pub mod At15V
 pub mod MarkedCases
+-- Sink lists (T-04): what is read writes back, and a rating is kept in milliwatts
+pub mod SinkRoundTrips
+pub mod SinkUnread
+pub mod Ceilings
 -- Whole messages (T-02): what is written reads back, and which bytes are touched
 pub mod Messages
 -- Demand 3, shared ports over whole runs: what holds after any calls, good or bad
@@ -41,6 +47,7 @@ pub mod DueAnswers
 -- What the contracts settle: one outcome for each input, and no wrong library
 pub mod OneOutcome
 pub mod FlatOutcomes
+pub mod SinkOutcomes
 pub mod MessageOutcomes
 pub mod Libraries
 pub mod WrongLibraries

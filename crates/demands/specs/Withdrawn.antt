@@ -31,6 +31,11 @@ use Rattle.ports.specs.declared.Row.{Row}
 use Rattle.ports.specs.declared.Standing.{Standing}
 use Rattle.ports.specs.declared.Change.{Change}
 use Rattle.ports.specs.declared.RemainingPower.{RemainingPower}
+use Rattle.sinks.specs.declared.SinkObject.{SinkObject}
+use Rattle.sinks.specs.declared.SinkDecoded.{SinkDecoded}
+use Rattle.sinks.specs.declared.SinkObjects.{SinkObjects}
+use Rattle.sinks.specs.declared.SinkReading.{SinkReading}
+use Rattle.sinks.specs.SinkWords.{sinkDecodedSays}
 use Rattle.flat.specs.declared.FlatObject.{FlatObject}
 use Rattle.flat.specs.declared.FlatObjects.{FlatObjects}
 use Rattle.flat.specs.declared.FlatReading.{FlatReading}
@@ -47,6 +52,7 @@ use Rattle.demands.specs.CallContracts.{ShapeAnswers, ReadAnswers, Refus
 use Rattle.demands.specs.CallContracts.{DefaultAnswers, BuildAnswers, CheckAnswers, WordAtAnswers}
 use Rattle.demands.specs.CallContracts.{AnswerAnswers, JudgeAnswers}
 use Rattle.demands.specs.CallContracts.{BeginAnswers, TakeRowAnswers, AttachDecides, AdvertiseDecides, OfferAnswers, RequestDecides, DetachDecides, RemainingDecides}
+use Rattle.demands.specs.SinkContracts.{SinkDecodeAnswers, SinkEncodeAnswers, SinkShapeAnswers, SinkReadAnswers, SinkWriteAnswers, SinkCheckAnswers, ArinSinkShapeAnswers, ArinSinkReadAnswers, ArinSinkWriteAnswers, ArinSinkCheckAnswers}
 use Rattle.demands.specs.FlatContracts.{FlatReadForAnswers, FlatWriteForAnswers, RaiseAnswers, FlatReadAnswers, FlatWriteAnswers}
 use Rattle.demands.specs.FlatContracts.{ArinDefaultAnswers, ArinBuildAnswers, ArinCheckAnswers, ArinShapeAnswers, ArinReadAnswers, ArinWriteAnswers, ArinAnswerAnswers}
 
@@ -77,6 +83,13 @@ pub record Never21 : Type 0 where
   -- requests
   pub judge : (o : Object) (w : ℕ) (r : Verdict) → JudgeAnswers o w r → Not21 (r .number)
   pub answer : (l : Words) (w : ℕ) (r : Verdict) → AnswerAnswers l w r → Not21 (r .number)
+  -- sinks
+  pub sink-decode : (w : ℕ) (r : SinkDecoded) → SinkDecodeAnswers w r → Not21 (sinkDecodedSays r .0)
+  pub sink-encode : (o : SinkObject) (r : Encoded) → SinkEncodeAnswers o r → Not21 (encodedSays r .0)
+  pub sink-shape : (l : Words) (r : Verdict) → SinkShapeAnswers l r → Not21 (r .number)
+  pub sink-read : (l : Words) (r : SinkReading) → SinkReadAnswers l r → Not21 (r .verdict .number)
+  pub sink-write : (o : SinkObjects) (r : Listing) → SinkWriteAnswers o r → Not21 (r .verdict .number)
+  pub sink-check : (rating : HalfWatts) (l : Words) (r : Verdict) → SinkCheckAnswers rating l r → Not21 (r .number)
   -- messages, whatever the bytes
   pub take-message : (bs : List ℕ) (r : MessageReading) → TakesMessage bs r → Not21 (r .verdict .number)
   pub read-message : (bs : List ℕ) (r : MessageReading) → ReadsMessage bs r → Not21 (r .verdict .number)
@@ -110,6 +123,11 @@ pub record Never21 : Type 0 where
   pub arin-read : (l : Words) (r : FlatReading) → ArinReadAnswers l r → Not21 (r .verdict .number)
   pub arin-write : (f : FlatObjects) (r : Listing) → ArinWriteAnswers f r → Not21 (r .verdict .number)
   pub arin-answer : (l : Words) (w : ℕ) (r : Verdict) → ArinAnswerAnswers l w r → Not21 (r .number)
+  -- board, sinks
+  pub arin-sink-shape : (l : Words) (r : Verdict) → ArinSinkShapeAnswers l r → Not21 (r .number)
+  pub arin-sink-read : (l : Words) (r : FlatReading) → ArinSinkReadAnswers l r → Not21 (r .verdict .number)
+  pub arin-sink-write : (f : FlatObjects) (r : Listing) → ArinSinkWriteAnswers f r → Not21 (r .verdict .number)
+  pub arin-sink-check : (rating : ℕ) (l : Words) (r : Verdict) → ArinSinkCheckAnswers rating l r → Not21 (r .number)
   -- board, messages
   pub arin-take-message : (bs : List ℕ) (r : MessageReading) → ArinTakesMessage bs r → Not21 (r .verdict .number)
   pub arin-read-message : (bs : List ℕ) (r : MessageReading) → ArinReadsMessage bs r → Not21 (r .verdict .number)

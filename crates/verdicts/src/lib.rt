@@ -117,6 +117,9 @@ pub const TYPE_NOT_HANDLED: u8 = 41;
 // A message: it is an extended one.
 pub const EXTENDED_MESSAGE: u8 = 42;
 
+// A sink list against its rating: an operating figure is above its ceiling.
+pub const ABOVE_CEILING: u8 = 43;
+
 // Writing a message: a field of its header is too wide for its bits.
 pub const HEADER_FIELD_TOO_WIDE: u8 = 51;
 

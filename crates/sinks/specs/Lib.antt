@@ -1,0 +1,5 @@
+pub mod SinkWords
+pub mod SinkLists
+pub mod Kept
+pub mod Rating
+pub mod Promises
