@@ -14,8 +14,8 @@ from charger.measure import (
     MICROWATTS_IN_250_MW, MICROWATTS_IN_HALF_WATT, MICROWATTS_IN_100_W, rounded_down, rounded_up,
 )
 from charger.object_words import (
-    Fixed, Battery, Variable, Pps, Avs, NoKind, PLACES, KIND_BITS, RESERVED, RESERVED_IN_LATER_FIXED, bits, kind_of,
-    decode, encode, has_field_too_wide, has_reserved_bit,
+    Fixed, Battery, Variable, Pps, Avs, NoKind, PLACES, KIND_BITS, RESERVED, RESERVED_IN_LATER_FIXED, Side, SOURCE,
+    bits, kind_in_bits, kind_of, kind_of_object, decode, encode, has_field_too_wide, has_reserved_bit,
 )
 from charger.lists import (
     PLACES_IN_A_LIST, Words, Objects, NO_OBJECT, in_hand, list_of_words, list_of_objects, NO_WORDS, NO_OBJECTS,
@@ -23,7 +23,7 @@ from charger.lists import (
 )
 from charger.shapes import (
     ORDER_OF_KINDS, is_fixed_at, is_past_voltage_bound, is_over_100_watts, is_out_of_order,
-    differs_from_its_fixed_objects, shaped, shape, read, write,
+    differs_from_its_fixed_objects, shaped, written, shape, read, write,
 )
 from charger.rules import (
     Profile, DOWN, UP, RAILS, PROG_MAX, PROG_MIN, THREE_AMPERES_IN_10_MA, THREE_AMPERES_IN_50_MA, cable_in_10_ma,

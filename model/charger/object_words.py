@@ -41,17 +41,21 @@ RESERVED = {
 # "fixed, any later word"
 RESERVED_IN_LATER_FIXED = ((29, 22),)
 
+# What the lists of a source and those of a sink do not share: the form that an
+# object of each kind has, the bits of its fields and its reserved bits. A kind
+# without a form is not allowed on that side. The bits of a kind are the same on
+# both. A function below speaks of a source where no side is named.
+Side = namedtuple("Side", "forms places reserved reserved_in_later_fixed")
+SOURCE = Side({kind: kind for kind in PLACES}, PLACES, RESERVED, RESERVED_IN_LATER_FIXED)
+
 
 def bits(word, high, low):
     return (word >> low) & ((1 << (high - low + 1)) - 1)
 
 
-def kind_of(word):
+def kind_in_bits(word):
     """The kind of a word is in bits 31..30; where these are 11b, bits 29..28
-    tell which. Those that are not allowed have no kind here. Nor has what has
-    no word."""
-    if word is None:
-        return None
+    tell which."""
     top = bits(word, 31, 30)
     if top == 0b00:
         return Fixed
@@ -62,33 +66,44 @@ def kind_of(word):
     return {0b00: Pps, 0b10: Avs}.get(bits(word, 29, 28))
 
 
-def decode(word):
+def kind_of(word, side=SOURCE):
+    """Those that are not allowed have no kind here. Nor has what has no word."""
+    kind = None if word is None else kind_in_bits(word)
+    return kind if kind in side.forms else None
+
+
+def kind_of_object(obj, side):
+    """None for one of no kind."""
+    return {form: kind for kind, form in side.forms.items()}.get(type(obj))
+
+
+def decode(word, side=SOURCE):
     """The object of a word of an allowed kind, each field by its bit places."""
-    kind = kind_of(word)
-    return kind(*[bits(word, high, low) for high, low in PLACES[kind]])
+    kind = kind_of(word, side)
+    return side.forms[kind](*[bits(word, high, low) for high, low in side.places[kind]])
 
 
-def encode(obj):
+def encode(obj, side=SOURCE):
     """The word of an object whose fields all fit their bits; None for one of
     no kind."""
-    if isinstance(obj, NoKind):
+    kind = kind_of_object(obj, side)
+    if kind is None:
         return None
-    word = KIND_BITS[type(obj)]
-    for figure, (_, low) in zip(obj, PLACES[type(obj)]):
+    word = KIND_BITS[kind]
+    for figure, (_, low) in zip(obj, side.places[kind]):
         word |= figure << low
     return word
 
 
-def has_field_too_wide(obj):
+def has_field_too_wide(obj, side=SOURCE):
     """7: a field does not fit its bits."""
-    if isinstance(obj, NoKind):
-        return False
-    return any(figure >> (high - low + 1) for figure, (high, low) in zip(obj, PLACES[type(obj)]))
+    places = side.places.get(kind_of_object(obj, side), ())
+    return any(figure >> (high - low + 1) for figure, (high, low) in zip(obj, places))
 
 
-def has_reserved_bit(kind, word, place):
+def has_reserved_bit(kind, word, place, side=SOURCE):
     """13: a reserved bit of an object is set."""
-    reserved = RESERVED[kind]
+    reserved = side.reserved[kind]
     if kind is Fixed and place > 1:
-        reserved = RESERVED_IN_LATER_FIXED
+        reserved = side.reserved_in_later_fixed
     return any(bits(word, high, low) for high, low in reserved)

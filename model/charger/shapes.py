@@ -3,7 +3,7 @@
 from charger.lists import NO_OBJECTS, NO_WORDS, held_in, list_of_objects, list_of_words, refuse_bad_count
 from charger.measure import MICROWATTS_IN_100_W, MICROWATTS_IN_250_MW
 from charger.object_words import (
-    Avs, Battery, Fixed, Pps, Variable, decode, encode, has_field_too_wide, has_reserved_bit, kind_of,
+    SOURCE, Avs, Battery, Fixed, Pps, Variable, decode, encode, has_field_too_wide, has_reserved_bit, kind_of,
 )
 from charger.refusals import public_call, refuse_if
 
@@ -68,17 +68,19 @@ def differs_from_its_fixed_objects(avs, objects):
     return not offered(15, avs.low) or (avs.high != 0 and not offered(20, avs.high))
 
 
-def shaped(words):
+def shaped(words, side=SOURCE):
     """The objects of a list whose shape passes. Order: 10; 11; then for each
-    word in turn 12, 13, 15, 16, 14; then 17."""
+    word in turn 12, 13, 15, 16, 14; then 17. On either side 15, 16 and 14 are
+    judged on the object that a source has for the word. A sink's object has the
+    same voltages and the same current or power."""
     refuse_bad_count(words)
     objects = []
     for place, word in enumerate(held_in(words), 1):
-        kind = kind_of(word)
+        kind = kind_of(word, side)
         if place == 1:
             refuse_if(kind is not Fixed or not is_fixed_at(decode(word), 5), 11, 1)
         refuse_if(kind is None, 12, place)
-        refuse_if(has_reserved_bit(kind, word, place), 13, place)
+        refuse_if(has_reserved_bit(kind, word, place, side), 13, place)
         obj = decode(word)
         refuse_if(is_past_voltage_bound(obj), 15, place)
         refuse_if(is_over_100_watts(obj), 16, place)
@@ -87,6 +89,18 @@ def shaped(words):
     for place, obj in enumerate(objects, 1):
         refuse_if(isinstance(obj, Avs) and differs_from_its_fixed_objects(obj, objects), 17, place)
     return objects
+
+
+def written(objects, side=SOURCE):
+    """It looks at the count first (10), then for the first object with a field
+    that is wider than its bits (7), and then at the shape of the words that the
+    objects make."""
+    refuse_bad_count(objects)
+    for place, obj in enumerate(held_in(objects), 1):
+        refuse_if(has_field_too_wide(obj, side), 7, place)
+    words = list_of_words([encode(obj, side) for obj in held_in(objects)])
+    shaped(words, side)
+    return words
 
 
 @public_call(None)
@@ -103,12 +117,5 @@ def read(words):
 
 @public_call(NO_WORDS)
 def write(objects):
-    """It looks at the count first (10), then for the first object with a field
-    that is wider than its bits (7), and then at the shape of the words that the
-    objects make."""
-    refuse_bad_count(objects)
-    for place, obj in enumerate(held_in(objects), 1):
-        refuse_if(has_field_too_wide(obj), 7, place)
-    words = list_of_words([encode(obj) for obj in held_in(objects)])
-    shaped(words)
-    return words
+    """Writing turns a list of objects into the list of its words."""
+    return written(objects)
