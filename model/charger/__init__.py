@@ -38,6 +38,10 @@ from charger.requests import (
     request_position, is_mismatch, operating_figure, maximum_figure, requested_voltage, requested_current,
     judge_figures, judge_pps, avs_limit, judge_avs, granted, answer,
 )
+from charger.sinks import (
+    SinkFixed, SinkPps, SINK, NO_SINK_OBJECT, VOLTS_OF_PPS_RANGE, list_of_sink_objects, NO_SINK_OBJECTS, sink_shaped,
+    operating_figure_of, ceiling, is_above_ceiling, sink_shape, sink_read, sink_write, sink_check,
+)
 from charger.messages import (
     Header, Message, HEADER_PLACES, BYTES_IN_A_HEADER, BYTES_IN_A_WORD, SOURCE_CAPABILITIES, REQUEST, NO_MESSAGE,
     number_of_bytes, bytes_of_number, header_of, number_of_header, has_header_field_too_wide, message_length, words_in,
