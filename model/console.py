@@ -6,7 +6,9 @@ What the page leaves open is decided in NOTES.md, under "The console".
 import sys
 
 import charger
-from charger import Avs, Battery, Fixed, Header, Message, Objects, Pps, Profile, Row, Variable, Words
+from charger import (
+    Avs, Battery, Fixed, Header, Message, Objects, Pps, Profile, Row, SinkFixed, SinkPps, Variable, Words,
+)
 
 # "more than 512 bytes": the newline is not part of the line.
 LONGEST_LINE = 512
@@ -33,7 +35,14 @@ OBJECT_FORMS = {
     "P": (Pps, (LARGEST_8_BIT, LARGEST_16_BIT, LARGEST_16_BIT, LARGEST_16_BIT)),
     "A": (Avs, (LARGEST_8_BIT, LARGEST_16_BIT, LARGEST_16_BIT)),
 }
-LETTERS = {kind: letter for letter, (kind, _) in OBJECT_FORMS.items()}
+# A sink object has no peak and no limited, and there is no `A`.
+SINK_FORMS = {
+    "F": (SinkFixed, (LARGEST_8_BIT, LARGEST_16_BIT, LARGEST_16_BIT)),
+    "B": OBJECT_FORMS["B"],
+    "V": OBJECT_FORMS["V"],
+    "P": (SinkPps, (LARGEST_16_BIT, LARGEST_16_BIT, LARGEST_16_BIT)),
+}
+LETTERS = {kind: letter for forms in (OBJECT_FORMS, SINK_FORMS) for letter, (kind, _) in forms.items()}
 
 
 class Unreadable(Exception):
@@ -107,17 +116,23 @@ class Fields:
     def profile(self):
         return Profile(self.short(), self.short(), self.byte(), self.byte(), self.byte(), self.byte())
 
-    def one_object(self):
-        kind, largest = OBJECT_FORMS.get(self.take(), (None, None))
+    def one_object(self, forms):
+        kind, largest = forms.get(self.take(), (None, None))
         if kind is None:
             raise Unreadable
         return kind(*[self.number(most) for most in largest])
 
-    def objects(self):
+    def some_objects(self, forms, list_of):
         """As many objects as the count says, and none where it is outside 1 to 7."""
         count = self.byte()
-        given = [self.one_object() for _ in range(count)] if 1 <= count <= 7 else []
-        return Objects(count, charger.list_of_objects(given).places)
+        given = [self.one_object(forms) for _ in range(count)] if 1 <= count <= 7 else []
+        return Objects(count, list_of(given).places)
+
+    def objects(self):
+        return self.some_objects(OBJECT_FORMS, charger.list_of_objects)
+
+    def sink_objects(self):
+        return self.some_objects(SINK_FORMS, charger.list_of_sink_objects)
 
     def row(self):
         """M W C P HELD"""
@@ -183,6 +198,10 @@ STATELESS_CALLS = {
     "read": ((Fields.words,), charger.read, said_objects),
     "write": ((Fields.objects,), charger.write, said_words),
     "answer": ((Fields.words, Fields.word), charger.answer, said_nothing_more),
+    "sinkshape": ((Fields.words,), charger.sink_shape, said_nothing_more),
+    "sinkread": ((Fields.words,), charger.sink_read, said_objects),
+    "sinkwrite": ((Fields.sink_objects,), charger.sink_write, said_words),
+    "sinkcheck": ((Fields.short, Fields.words), charger.sink_check, said_nothing_more),
     "readmsg": ((Fields.some_bytes,), charger.read_message, said_message),
     "takemsg": ((Fields.some_bytes,), charger.take_message_apart, said_message),
     "writemsg": ((Fields.header, Fields.room, Fields.seven_words), write_message_into, said_written),
