@@ -40,6 +40,20 @@ EXAMPLES_OF_MESSAGES = (
 )
 
 
+EXAMPLES_OF_SINKS = (
+    ("sinkshape 2 1201912C C0DC323C" + ZEROS[9:], "0 0"),
+    ("sinkshape 2 1201912C C8DC323C" + ZEROS[9:], "13 2"),
+    ("sinkread 2 1201912C C0DC323C" + ZEROS[9:], "0 0 2 F 36 100 300 P 110 50 60"),
+    ("sinkread 2 1201912C E003C000" + ZEROS[9:], "12 2 0"),
+    ("sinkwrite 2 F 36 100 300 P 110 50 60", "0 0 2 1201912C C0DC323C"),
+    ("sinkwrite 1 F 128 100 300", "7 1 0"),
+    ("sinkwrite 1 A 0 240 0", "?"),
+    ("sinkcheck 54 2 1201912C C0DC323C" + ZEROS[9:], "0 0"),
+    ("sinkcheck 53 2 1201912C C0DC323C" + ZEROS[9:], "43 0"),
+    ("sinkcheck 0 2 1201912C C0DC323C" + ZEROS[9:], "1 0"),
+)
+
+
 def served(given):
     sink = io.BytesIO()
     console.serve(io.BytesIO(given), sink)
@@ -93,5 +107,35 @@ def test_lines_of_messages():
         "writemsg 0 1 1 0 2 0 2 40051545" + ZEROS, "writemsg 0 256 1 0 2 0 2 8 40051545" + ZEROS,
         "writemsg 0 1 1 0 2 0 256 8 40051545" + ZEROS, "writemsg 0 1 1 0 2 0 2 - 40051545" + ZEROS,
         "writemsg 0 1 1 0 2 0 2 256 40051545" + ZEROS, "writemsg 0 1 1 0 2 0 2 8 4005154" + ZEROS,
+    ):
+        expect(line, served(line.encode()), b"?\n")
+
+
+def test_lines_of_sinks():
+    for line, answer in EXAMPLES_OF_SINKS:
+        expect(line, served(line.encode()).decode(), answer + "\n")
+    for line, answer in (
+        ("sinkread 4 3F81912C 5A4190C8 99019096 C1FEFF7F" + ZEROS[27:], "15 4 0"),
+        ("sinkread 4 3F81912C 5A4190C8 99019096 c1a4327f" + ZEROS[27:],
+         "0 0 4 F 127 100 300 B 420 100 200 V 400 100 150 P 210 50 127"),
+        ("sinkwrite 4 F 127 100 300 B 420 100 200 V 400 100 150 P 210 50 127",
+         "0 0 4 3F81912C 5A4190C8 99019096 C1A4327F"),
+        ("sinkwrite 1 F 255 100 300", "7 1 0"),
+        ("sinkwrite 2 F 0 100 300 P 65535 50 60", "7 2 0"),
+        ("sinkwrite 2 F 0 100 300 P 110 50 65535", "7 2 0"),
+        ("sinkwrite 0", "10 0 0"),
+        ("sinkwrite 255", "10 0 0"),
+        ("sinkread 0" + ZEROS + " 00000000", "10 0 0"),
+        ("sinkcheck 65535 0" + ZEROS + " 00000000", "1 0"),
+        ("sinkcheck 0200 01 0001912C" + ZEROS, "0 0"),
+    ):
+        expect(line, served(line.encode()).decode(), answer + "\n")
+    for line in (
+        "sinkshape", "sinkread", "sinkwrite", "sinkcheck", "sink shape 1 0001912C" + ZEROS, "sinkshape 1" + ZEROS,
+        "sinkshape 256 0001912C" + ZEROS, "sinkshape 1 0001912C 00000000" + ZEROS, "SINKREAD 1 0001912C" + ZEROS,
+        "sinkcheck 65536 1 0001912C" + ZEROS, "sinkcheck 1 0001912C" + ZEROS, "sinkcheck  54 1 0001912C" + ZEROS,
+        "sinkwrite 256", "sinkwrite 0 F 0 100 300", "sinkwrite 1 F 256 100 300", "sinkwrite 1 F 0 65536 300",
+        "sinkwrite 1 F 0 0 100 300", "sinkwrite 2 F 0 100 300 P 1 110 50 60", "sinkwrite 2 F 0 100 300",
+        "sinkwrite 2 F 0 100 300 A 300 0 0", "sinkwrite 1 f 0 100 300",
     ):
         expect(line, served(line.encode()), b"?\n")
