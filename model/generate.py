@@ -6,20 +6,29 @@ The seed is fixed: the same files come out each time. Each file of inputs/ makes
 one kind of line; unreadable lines are strewn over all of them. At the end the
 lines are counted by refusal number. A number of the statement's table that was given
 fewer than 20 times fails the run, and so does one that the table does not have. The
-numbers of messages are counted for each call that gives them.
+numbers of messages and of sink lists are counted for each call that gives them.
 """
 
 import sys
 from collections import Counter
 
-from inputs import messages, ports, requests, rules, shapes
+from inputs import messages, ports, ratings, requests, rules, shapes, sinks
 from inputs.book import book
 from inputs.unreadable import STRANGE_LINES
 
 FEWEST = 20
 # Those of the statement's table: 21 is withdrawn.
-NUMBERS = [*range(1, 8), *range(10, 21), *range(22, 26), *range(30, 38), *range(40, 43), *range(51, 54)]
-NUMBERS_OF_MESSAGES = {"readmsg": (40, 42, 41, 53), "takemsg": (40, 42, 41, 53), "writemsg": (51, 42, 41, 53, 52)}
+NUMBERS = [*range(1, 8), *range(10, 21), *range(22, 26), *range(30, 38), *range(40, 44), *range(51, 54)]
+NUMBERS_OF_CALLS = {
+    "readmsg": (40, 42, 41, 53),
+    "takemsg": (40, 42, 41, 53),
+    "writemsg": (51, 42, 41, 53, 52),
+    "sinkshape": (10, 11, 12, 13, 15, 16, 14),
+    "sinkread": (10, 11, 12, 13, 15, 16, 14),
+    # 12 is C's alone: a line has no letter for an object of no kind
+    "sinkwrite": (10, 7, 11, 13, 15, 16, 14),
+    "sinkcheck": (1, 10, 11, 12, 13, 15, 16, 14, 43),
+}
 
 # A number is its value: leading zeros are read, up to 512 bytes of line.
 ODD_BUT_READABLE = (
@@ -63,6 +72,8 @@ def all_lines():
     requests.answer_lines()
     ports.port_lines()
     messages.message_lines()
+    sinks.sink_lines()
+    ratings.rating_lines()
     # the end of the input in the middle of a line: this line has no newline
     book.put("build 72 72 3 0 1 0")
 
@@ -85,7 +96,7 @@ def count_lines():
     for number in NUMBERS:
         print("refusal %2d: %d" % (number, by_number[str(number)]))
     seldom = [number for number in NUMBERS if by_number[str(number)] < FEWEST]
-    for call, numbers in NUMBERS_OF_MESSAGES.items():
+    for call, numbers in NUMBERS_OF_CALLS.items():
         print("%s: %s" % (call, ", ".join("%d %d times" % (number, by_both[call, str(number)]) for number in numbers)))
         seldom += ["%d of %s" % (number, call) for number in numbers if by_both[call, str(number)] < FEWEST]
     return seldom, sorted(set(by_number) - {"0", "?", "rows"} - {str(number) for number in NUMBERS})

@@ -81,12 +81,12 @@ def word_of_refused_kind(words):
     words[at] = rng.choice((0xD0000000, 0xF0000000)) | (words[at] & 0x0FFFFFFF)
 
 
-def reserved_bit_set(words):
+def reserved_bit_set(words, side=charger.SOURCE):
     at = rng.randrange(len(words))
-    kind = charger.kind_of(words[at])
-    reserved = charger.RESERVED.get(kind, ())
+    kind = charger.kind_of(words[at], side)
+    reserved = side.reserved.get(kind, ())
     if kind is Fixed and at > 0:
-        reserved = charger.RESERVED_IN_LATER_FIXED
+        reserved = side.reserved_in_later_fixed
     if reserved:
         high, low = rng.choice(reserved)
         words[at] |= 1 << rng.randint(low, high)
@@ -122,11 +122,11 @@ DAMAGES = (
 )
 
 
-def said_damaged(words):
+def said_damaged(words, damages=DAMAGES):
     """One or two damages, or a count that is off."""
     words = list(words)
     for _ in range(rng.choice((1, 1, 2))):
-        rng.choice(DAMAGES)(words)
+        rng.choice(damages)(words)
     count = len(words)
     if rng.random() < 0.1:
         count = rng.choice((0, 8, 9, 255, max(0, count - 1), count + 1))

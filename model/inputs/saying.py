@@ -35,9 +35,9 @@ def said_object(obj):
     return " ".join(str(part) for part in (console.LETTERS[type(obj)], *obj))
 
 
-def said_write(objects, count=None):
+def said_write(objects, count=None, call="write"):
     count = len(objects) if count is None else count
-    return " ".join(["write", str(count)] + [said_object(obj) for obj in objects])
+    return " ".join([call, str(count)] + [said_object(obj) for obj in objects])
 
 
 def said_bytes(some):
@@ -57,8 +57,8 @@ def said_write_message(header, room, words):
     return " ".join(["writemsg"] + [str(figure) for figure in (*header, room)] + [hex_of(word) for word in seven])
 
 
-def words_of(objects):
-    return [charger.encode(obj) for obj in objects]
+def words_of(objects, side=charger.SOURCE):
+    return [charger.encode(obj, side) for obj in objects]
 
 
 def near(*figures):

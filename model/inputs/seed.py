@@ -6,5 +6,6 @@ SEED = 20040101
 # A part that begins from a seed of its own stays as it is when a part before it
 # changes.
 SEED_OF_MESSAGES = 20040102
+SEED_OF_SINKS = 20040103
 
 rng = random.Random(SEED)
