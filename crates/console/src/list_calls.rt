@@ -4,22 +4,16 @@ use lines::put_listing;
 use lines::put_unreadable;
 use lines::put_verdict;
 use lines::take_number;
-use lines::take_seven_words;
 use lines::take_small_number;
 use lines::take_word;
-use lists::Words;
 use object_lines::put_objects;
+use object_lines::take_list;
 use object_lines::take_objects;
 use rules::Profile;
 use steps::HalfWatts;
 
 struct ProfileFields {
     profile: Profile,
-    next: usize,
-}
-
-struct WordFields {
-    list: Words,
     next: usize,
 }
 
@@ -42,21 +36,6 @@ fn take_profile(line: &[u8], at: usize) -> ProfileFields {
     ProfileFields {
         profile,
         next: flags.next,
-    }
-}
-
-// A list is typed as its count and all seven words, also where the count is less.
-fn take_list(line: &[u8], at: usize) -> WordFields {
-    let count = take_small_number(line, at);
-    let seven = take_seven_words(line, count.next);
-    let words = seven.values;
-    let list = Words {
-        words,
-        count: count.value,
-    };
-    WordFields {
-        list,
-        next: seven.next,
     }
 }
 

@@ -25,6 +25,26 @@ pub struct ObjectFields {
     pub next: usize,
 }
 
+pub struct ThreeNumbers {
+    pub first: u16,
+    pub second: u16,
+    pub third: u16,
+    pub next: usize,
+}
+
+// The figures that most objects end with: two voltages, and a current or a power.
+pub fn take_three(line: &[u8], at: usize) -> ThreeNumbers {
+    let first = take_number(line, at);
+    let second = take_number(line, first.next);
+    let third = take_number(line, second.next);
+    ThreeNumbers {
+        first: first.value,
+        second: second.value,
+        third: third.value,
+        next: third.next,
+    }
+}
+
 // `F flags peak volts current`
 fn take_fixed(line: &[u8], at: usize) -> ObjectField {
     let flags = take_small_number(line, at);
@@ -45,51 +65,45 @@ fn take_fixed(line: &[u8], at: usize) -> ObjectField {
 
 // `B max min power`
 fn take_battery(line: &[u8], at: usize) -> ObjectField {
-    let max = take_number(line, at);
-    let min = take_number(line, max.next);
-    let power = take_number(line, min.next);
+    let three = take_three(line, at);
     let object = Object::Battery {
-        max: Mv50(max.value),
-        min: Mv50(min.value),
-        power: Mw250(power.value),
+        max: Mv50(three.first),
+        min: Mv50(three.second),
+        power: Mw250(three.third),
     };
     ObjectField {
         object,
-        next: power.next,
+        next: three.next,
     }
 }
 
 // `V max min current`
 fn take_variable(line: &[u8], at: usize) -> ObjectField {
-    let max = take_number(line, at);
-    let min = take_number(line, max.next);
-    let current = take_number(line, min.next);
+    let three = take_three(line, at);
     let object = Object::Variable {
-        max: Mv50(max.value),
-        min: Mv50(min.value),
-        current: Ma10(current.value),
+        max: Mv50(three.first),
+        min: Mv50(three.second),
+        current: Ma10(three.third),
     };
     ObjectField {
         object,
-        next: current.next,
+        next: three.next,
     }
 }
 
 // `P limited max min current`
 fn take_pps(line: &[u8], at: usize) -> ObjectField {
     let limited = take_small_number(line, at);
-    let max = take_number(line, limited.next);
-    let min = take_number(line, max.next);
-    let current = take_number(line, min.next);
+    let three = take_three(line, limited.next);
     let object = Object::Pps {
         limited: limited.value,
-        max: Mv100(max.value),
-        min: Mv100(min.value),
-        current: Ma50(current.value),
+        max: Mv100(three.first),
+        min: Mv100(three.second),
+        current: Ma50(three.third),
     };
     ObjectField {
         object,
-        next: current.next,
+        next: three.next,
     }
 }
 
@@ -139,7 +153,7 @@ fn take_object(line: &[u8], at: usize) -> ObjectField {
 }
 
 // As many objects as the count says, and none where it is outside 1 to 7.
-fn objects_in(count: u8) -> usize {
+pub fn objects_in(count: u8) -> usize {
     if 7 < count {
         return 0;
     }
@@ -164,12 +178,12 @@ pub fn take_objects(line: &[u8], at: usize, count: u8) -> ObjectFields {
     ObjectFields { list, next }
 }
 
-fn put_letter(out: &mut [u8; 4096], end: usize, letter: u8) -> usize {
+pub fn put_letter(out: &mut [u8; 4096], end: usize, letter: u8) -> usize {
     let space = put(out, end, b' ');
     put(out, space, letter)
 }
 
-fn put_three(out: &mut [u8; 4096], end: usize, a: u16, b: u16, c: u16) -> usize {
+pub fn put_three(out: &mut [u8; 4096], end: usize, a: u16, b: u16, c: u16) -> usize {
     let first = put_field(out, end, a);
     let second = put_field(out, first, b);
     put_field(out, second, c)
