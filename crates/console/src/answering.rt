@@ -21,6 +21,10 @@ use lines::put_unreadable;
 use message_lines::read_message_line;
 use message_lines::take_message_line;
 use message_lines::write_message_line;
+use sink_lines::sink_check_line;
+use sink_lines::sink_read_line;
+use sink_lines::sink_shape_line;
+use sink_lines::sink_write_line;
 
 fn begins(line: &[u8], name: &[u8]) -> bool {
     if line.len() < name.len() {
@@ -34,6 +38,22 @@ fn begins(line: &[u8], name: &[u8]) -> bool {
         i += 1;
     }
     true
+}
+
+fn answer_sink_line(line: &[u8], out: &mut [u8; 4096], end: usize) -> usize {
+    if begins(line, b"sinkshape") {
+        return sink_shape_line(line, 9, out, end);
+    }
+    if begins(line, b"sinkread") {
+        return sink_read_line(line, 8, out, end);
+    }
+    if begins(line, b"sinkwrite") {
+        return sink_write_line(line, 9, out, end);
+    }
+    if begins(line, b"sinkcheck") {
+        return sink_check_line(line, 9, out, end);
+    }
+    put_unreadable(out, end)
 }
 
 fn answer_list_line(line: &[u8], out: &mut [u8; 4096], end: usize) -> usize {
@@ -67,7 +87,7 @@ fn answer_list_line(line: &[u8], out: &mut [u8; 4096], end: usize) -> usize {
     if begins(line, b"answer") {
         return answer_call_line(line, 6, out, end);
     }
-    put_unreadable(out, end)
+    answer_sink_line(line, out, end)
 }
 
 pub(crate) fn answer_line(line: &[u8], table: Table, out: &mut [u8; 4096], end: usize) -> Answered {
