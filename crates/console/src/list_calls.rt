@@ -6,9 +6,7 @@ use lines::put_verdict;
 use lines::take_number;
 use lines::take_small_number;
 use lines::take_word;
-use object_lines::put_objects;
 use object_lines::take_list;
-use object_lines::take_objects;
 use rules::Profile;
 use steps::HalfWatts;
 
@@ -71,16 +69,6 @@ pub(crate) fn build_line(line: &[u8], at: usize, out: &mut [u8; 4096], end: usiz
     put_listing(out, end, answer)
 }
 
-pub(crate) fn shape_line(line: &[u8], at: usize, out: &mut [u8; 4096], end: usize) -> usize {
-    let fields = take_list(line, at);
-    if fields.next != line.len() {
-        return put_unreadable(out, end);
-    }
-    let list = fields.list;
-    let answer = lists::shape(list);
-    put_verdict(out, end, answer)
-}
-
 pub(crate) fn check_line(line: &[u8], at: usize, out: &mut [u8; 4096], end: usize) -> usize {
     let port = take_profile(line, at);
     let fields = take_list(line, port.next);
@@ -91,30 +79,6 @@ pub(crate) fn check_line(line: &[u8], at: usize, out: &mut [u8; 4096], end: usiz
     let list = fields.list;
     let answer = rules::check(profile, list);
     put_verdict(out, end, answer)
-}
-
-pub(crate) fn read_line(line: &[u8], at: usize, out: &mut [u8; 4096], end: usize) -> usize {
-    let fields = take_list(line, at);
-    if fields.next != line.len() {
-        return put_unreadable(out, end);
-    }
-    let list = fields.list;
-    let answer = lists::read(list);
-    let verdict = answer.verdict;
-    let objects = answer.list;
-    let told = put_verdict(out, end, verdict);
-    put_objects(out, told, objects)
-}
-
-pub(crate) fn write_line(line: &[u8], at: usize, out: &mut [u8; 4096], end: usize) -> usize {
-    let count = take_small_number(line, at);
-    let fields = take_objects(line, count.next, count.value);
-    if fields.next != line.len() {
-        return put_unreadable(out, end);
-    }
-    let list = fields.list;
-    let answer = lists::write(list);
-    put_listing(out, end, answer)
 }
 
 pub(crate) fn answer_call_line(line: &[u8], at: usize, out: &mut [u8; 4096], end: usize) -> usize {

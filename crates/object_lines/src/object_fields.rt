@@ -20,7 +20,7 @@ struct ObjectField {
     next: usize,
 }
 
-pub struct ObjectFields {
+pub(crate) struct ObjectFields {
     pub list: Objects,
     pub next: usize,
 }
@@ -160,7 +160,7 @@ pub fn objects_in(count: u8) -> usize {
     count as usize
 }
 
-pub fn take_objects(line: &[u8], at: usize, count: u8) -> ObjectFields {
+pub(crate) fn take_objects(line: &[u8], at: usize, count: u8) -> ObjectFields {
     let wanted = objects_in(count);
     let mut places = [EMPTY_PLACE; 7];
     let mut next = at;
@@ -230,7 +230,7 @@ fn put_object(out: &mut [u8; 4096], end: usize, object: Object) -> usize {
 }
 
 // The count and as many objects.
-pub fn put_objects(out: &mut [u8; 4096], end: usize, list: Objects) -> usize {
+pub(crate) fn put_objects(out: &mut [u8; 4096], end: usize, list: Objects) -> usize {
     let count = list.count as usize;
     let mut at = put_field(out, end, list.count as u16);
     let mut i: usize = 0;
