@@ -33,6 +33,8 @@ END
 esac
 
 cargo_library=release/libarinduleu_c.a
+# What a program includes, and the part of it that names the refusals.
+headers=(include/arinduleu.h include/arinduleu_refusals.h)
 . tools/passing.sh
 . tools/c_programs.sh
 
@@ -74,7 +76,7 @@ header_names() {
       crates/verdicts/src/lib.rt crates/flat/src/lib.rt crates/messages/src/lib.rt
   } | sort > "$made/wanted"
   sed -n -e 's/^ARIN_MUST_USE struct [a-z_]* \(arin_[a-z_]*\)(.*/\1/p' -e 's/^    \(ARIN_[A-Z0-9_]* = [0-9]*\).*/\1/p' \
-    -e 's/^enum { .* \(ARIN_[A-Z0-9_]* = [0-9]*\) };$/\1/p' include/arinduleu.h |
+    -e 's/^enum { .* \(ARIN_[A-Z0-9_]* = [0-9]*\) };$/\1/p' "${headers[@]}" |
     sort > "$made/named"
   diff "$made/wanted" "$made/named" >&2 || fail "the header does not name what crates/board, verdicts, flat and messages do"
   pass "the header names the calls, refusals, kinds and types of the Rattle source, and the longest message ($(grep -c . "$made/named"))"
@@ -106,7 +108,7 @@ header_version() {
 ignored_as() {
   local language=$1 standard=$2 compiler marked told words
   shift 2
-  marked=$(grep -c '^ARIN_MUST_USE ' include/arinduleu.h)
+  marked=$(cat "${headers[@]}" | grep -c '^ARIN_MUST_USE ')
   for compiler in $(compilers "$@"); do
     words=("$compiler" -x "$language" "-std=$standard" "${warnings[@]}" -c tests/c/ignored.c -o "$made/object.o")
     if "${words[@]}" -Iinclude > "$made/log" 2>&1; then
