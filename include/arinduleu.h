@@ -1,6 +1,7 @@
 /*
  * Arinduleu: what a USB-C charger port advertises (SPR source capabilities with SPR AVS), the answers to the requests that come
- * back, the messages that both travel in, and one supply shared by up to eight ports.
+ * back, the lists that a sink sends of what it needs, the messages that lists and requests travel in, and one supply shared by up
+ * to eight ports.
  *
  * The same header serves two libraries with the same calls. Link one of them:
  *   - libboard.a, which `rt staticlib board` writes to target/staticlib, for x86-64;
@@ -45,9 +46,9 @@
 
 /* The version of the header, and of the library that it came with. */
 #define ARIN_VERSION_MAJOR 0
-#define ARIN_VERSION_MINOR 4
+#define ARIN_VERSION_MINOR 5
 #define ARIN_VERSION_PATCH 0
-#define ARIN_VERSION "0.4.0"
+#define ARIN_VERSION "0.5.0"
 
 /*
  * Stands before every call: an answer that nobody looks at is a slip, and GCC and clang warn of it. Other compilers see nothing.
@@ -120,7 +121,7 @@ struct arin_profiled {
     struct arin_profile profile;
 };
 
-/* A list as it goes over the wire: the words of Source_Capabilities, in order. */
+/* A list as it goes over the wire: the words of Source_Capabilities, or of Sink_Capabilities, in order. */
 struct arin_words {
     uint32_t words[ARIN_LIST_PLACES];
     uint8_t count; /* 1..7; 0 on a refusal */
@@ -134,6 +135,10 @@ struct arin_listing {
 /*
  * One object of any kind. Each field has one unit, whatever the kind. A field that the kind does not have is zero when it is
  * given out, and not read when it is taken in.
+ *
+ * A sink has every kind but AVS, and never peak or limited. Its current or power is the operating figure: what it needs. The flags
+ * of its first object are, added up, 64 dual-role power, 32 higher capability, 16 unconstrained power, 8 USB communications, 4
+ * dual-role data, and 0..3 for the current of a fast role swap. They are carried and not looked into.
  */
 struct arin_flat_object {
     uint8_t kind;       /* one of arin_kind */
@@ -254,6 +259,37 @@ ARIN_MUST_USE struct arin_listing arin_write(struct arin_flat_objects list);
  * Refusals: those of arin_shape, with their places; then 20, 23, 22, 24, 25.
  */
 ARIN_MUST_USE struct arin_verdict arin_answer(struct arin_words list, uint32_t word);
+
+/* ---- Sink lists: what a sink needs. The message that they come in is none of those below: its words are handed in ---- */
+
+/*
+ * Whether these words make a sink list: number 0 where they do. No sink has AVS; bits of peak current and power limited are reserved.
+ * Refusals: 10; 11 (place 1); then word by word 12, 13, 15, 16, 14 (the word).
+ */
+ARIN_MUST_USE struct arin_verdict arin_sink_shape(struct arin_words list);
+
+/*
+ * The objects of a sink list. Their peak and limited are zero.
+ * Refusals: those of arin_sink_shape.
+ */
+ARIN_MUST_USE struct arin_flat_reading arin_sink_read(struct arin_words list);
+
+/*
+ * The words of a list of sink objects. Their peak and limited are not read.
+ * Refusals: 10; 7 (the first such object); then those of arin_sink_shape for the words made: 11 (place 1); word by word 12, 13, 15,
+ * 16, 14 (the word). An object whose kind is none of a sink's four, AVS too, has no field that could be too wide: it gets 11 where
+ * it is the first, else 12 at its place.
+ */
+ARIN_MUST_USE struct arin_listing arin_sink_write(struct arin_flat_objects list);
+
+/*
+ * Whether a sink list keeps to the rating, in half watts, that the sink is designed for: number 0 where it does. A current is at
+ * most the rating divided by the voltage and rounded down to the step of the current; a battery's power is at most the rating. The
+ * voltage is that of a fixed object; of PPS from 5 V to 11, 16 or 21 V it is 9, 15 or 20 V; of all others it is the maximum. One of
+ * zero sets no bound.
+ * Refusals: 1 (the rating is not 1..200); those of arin_sink_shape, with their places; 43.
+ */
+ARIN_MUST_USE struct arin_verdict arin_sink_check(uint16_t rating, struct arin_words list);
 
 /* ---- Messages: the header and the words as bytes, of each number the low byte first ---- */
 

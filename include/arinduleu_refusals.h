@@ -9,7 +9,7 @@ enum arin_refusal {
     ARIN_SUCCESS = 0,
 
     /* A profile. */
-    ARIN_PORT_MAXIMUM = 1,      /* port maximum outside 1..200 */
+    ARIN_PORT_MAXIMUM = 1,      /* port maximum, or the rating of a sink, outside 1..200 */
     ARIN_PRESENT_POWER = 2,     /* present power outside 1..port maximum */
     ARIN_CABLE = 3,             /* cable not 3 or 5 */
     ARIN_NOT_A_CHOICE = 4,      /* rounding or PPS wanted above 1; at set-up the place is the row */
@@ -25,7 +25,7 @@ enum arin_refusal {
     /* The shape of a list. The place of 11 to 17 is the word. */
     ARIN_COUNT = 10,               /* count not 1..7 */
     ARIN_FIRST_NOT_FIXED_5_V = 11, /* first object not fixed 5 V */
-    ARIN_KIND_NOT_ALLOWED = 12,    /* no kind of an SPR list */
+    ARIN_KIND_NOT_ALLOWED = 12,    /* no kind of an SPR list; in that of a sink AVS too */
     ARIN_RESERVED_BIT = 13,        /* reserved bit set in an object */
     ARIN_ORDER = 14,               /* order of the objects, or a second AVS */
     ARIN_VOLTAGE_BOUND = 15,       /* fixed above 20 V; battery, variable or PPS above 21 V, or minimum above maximum */
@@ -54,9 +54,14 @@ enum arin_refusal {
     ARIN_ROWS_NOT_SOUND = 37,    /* the place is the first row at fault, or 0 when only the sum of what is held is */
 
     /* A message. The place is always 0. */
-    ARIN_MESSAGE_LENGTH = 40,        /* fewer bytes than a header, or not as many as its count makes */
-    ARIN_TYPE_NOT_HANDLED = 41,      /* type not 1 or 2 */
-    ARIN_EXTENDED_MESSAGE = 42,      /* extended set */
+    ARIN_MESSAGE_LENGTH = 40,   /* fewer bytes than a header, or not as many as its count makes */
+    ARIN_TYPE_NOT_HANDLED = 41, /* type not 1 or 2 */
+    ARIN_EXTENDED_MESSAGE = 42, /* extended set */
+
+    /* A sink list against its rating. The place is always 0. */
+    ARIN_ABOVE_CEILING = 43, /* a current or a power above what the rating allows */
+
+    /* A message again. */
     ARIN_HEADER_FIELD_TOO_WIDE = 51, /* in writing, a field of the header too wide for its bits */
     ARIN_BUFFER_TOO_SHORT = 52,      /* in writing, a buffer too short for the message */
     ARIN_REQUEST_COUNT = 53          /* a Request whose count is not 1 */

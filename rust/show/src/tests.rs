@@ -138,7 +138,10 @@ fn what_cannot_be_read_is_told() {
 #[test]
 fn the_library_refuses_in_a_sentence() {
     for (line, why) in [
-        ("0", "refused (1): the port maximum is outside 1 to 200 half watts"),
+        (
+            "0",
+            "refused (1): the port maximum or the rating of a sink is outside 1 to 200 half watts",
+        ),
         ("99999999999999999999", "refused (1): the port maximum"),
         ("32768", "refused (1): the port maximum"),
         ("36 --present 36.5", "refused (2): the present power is outside"),
