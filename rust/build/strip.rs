@@ -26,8 +26,8 @@ const DEBUG_BY_HAND: [&str; 4] = [
 ];
 
 /// All zero is what an empty list, an empty place, no message or a row before set-up has, and a measure of nothing. A profile that is all
-/// zero is refused, so it has no default. `rust/src/defaults.rs` has that of an object.
-const ZERO_BY_DEFAULT: [&str; 17] = [
+/// zero is refused, so it has no default. `rust/src/defaults.rs` has that of an object, of either side.
+const ZERO_BY_DEFAULT: [&str; 19] = [
     "verdicts::Verdict",
     "steps::Mv20",
     "steps::Mv25",
@@ -42,13 +42,15 @@ const ZERO_BY_DEFAULT: [&str; 17] = [
     "lists::Objects",
     "messages::Header",
     "messages::Message",
+    "sinks::SinkPlace",
+    "sinks::SinkObjects",
     "ports::Row",
     "flat::FlatObject",
     "flat::FlatObjects",
 ];
 
 /// Measures, and what somebody may want to keep sorted. An answer is neither.
-const ORDERED: [&str; 16] = [
+const ORDERED: [&str; 17] = [
     "verdicts::Verdict",
     "steps::Mv20",
     "steps::Mv25",
@@ -63,6 +65,7 @@ const ORDERED: [&str; 16] = [
     "rules::Profile",
     "messages::Header",
     "messages::Message",
+    "sinks::SinkObject",
     "ports::Row",
     "flat::FlatObject",
 ];

@@ -1,12 +1,12 @@
 //! Arinduleu: source capabilities for USB-C ports with SPR AVS. It builds the list of supplies that a port advertises, checks such lists,
-//! answers the requests that come back, takes apart and puts together the messages that both travel in, and shares one supply among up to
-//! eight ports.
+//! answers the requests that come back, takes apart, puts together and checks the lists that a sink sends of what it needs, takes apart and
+//! puts together the messages that lists and requests travel in, and shares one supply among up to eight ports.
 //!
 //! The modules are the crates of the proved source, with their own names: nothing here is written twice. The build script reads
 //! `crates/*/src/*.rt` and takes the contracts away; what they promise for every input is in `docs/TRACE.md`.
 //!
-//! Firmware calls [`board`]; [`rules`], [`lists`], [`requests`], [`messages`] and [`objects`] are the floors below it. Nothing panics,
-//! nothing is allocated, and there is no state but the rows that the caller lends.
+//! Firmware calls [`board`]; [`rules`], [`lists`], [`requests`], [`messages`], [`sinks`] and [`objects`] are the floors below it. Nothing
+//! panics, nothing is allocated, and there is no state but the rows that the caller lends.
 //!
 //! # Refusals
 //!
@@ -18,7 +18,8 @@
 //! use arinduleu::messages::{read_message, write_message, Header, Message, LONGEST_MESSAGE, REQUEST};
 //! use arinduleu::ports::Row;
 //! use arinduleu::rules::{build, default_profile, Profile};
-//! use arinduleu::steps::HalfWatts;
+//! use arinduleu::sinks::{sink_check, sink_write, SinkObject, SinkObjects};
+//! use arinduleu::steps::{HalfWatts, Ma10, Mv50};
 //! use arinduleu::{requests, Refusal};
 //!
 //! fn main() -> Result<(), Refusal> {
@@ -32,6 +33,14 @@
 //!     let refusal = requests::answer(list, 0x7004_B12C).ok().unwrap_err();
 //!     assert_eq!(refusal.number(), arinduleu::verdicts::POSITION);
 //!     assert_eq!(refusal.to_string(), "the request names a position that the list does not have (refusal 20)");
+//!
+//!     // A sink that is designed for 45 W needs 5 V at 3 A, or 20 V at 2.25 A. For half a watt less that is too much.
+//!     let fixed = |volts, current| SinkObject::Fixed { flags: 0, volts: Mv50(volts), current: Ma10(current) };
+//!     let needs = SinkObjects::try_from(&[fixed(100, 300), fixed(400, 225)][..])?;
+//!     let list = sink_write(needs).ok()?;
+//!     sink_check(HalfWatts(90), list).ok()?;
+//!     let refusal = sink_check(HalfWatts(89), list).ok().unwrap_err();
+//!     assert_eq!(refusal.number(), arinduleu::verdicts::ABOVE_CEILING);
 //!
 //!     // Two ports of 65 W that share 100 W: port 1 gets a 5 A cable.
 //!     let mut rows = [Row { max: HalfWatts(130), ..Row::default() }; 2];
@@ -61,8 +70,8 @@
 //! Every type can be copied, compared, hashed and shown; words are shown in hex. `Default` is all zero: success, an empty list or place, no
 //! message, a row before set-up, a measure of nothing. [`rules::Profile`] has none, since one that is all zero is refused: see
 //! [`rules::default_profile`]. Measures are ordered by what they measure, verdicts and refusals by number and then by place. The order of
-//! profiles, rows, objects, lists of words and messages goes by their fields as they are declared: it is for sorted collections, and says
-//! nothing of which is better.
+//! profiles, rows, objects of either side, lists of words and messages goes by their fields as they are declared: it is for sorted
+//! collections, and says nothing of which is better.
 #![no_std]
 #![forbid(unsafe_code)]
 #![deny(missing_docs, rustdoc::broken_intra_doc_links)]

@@ -7,6 +7,7 @@ use crate::objects::{Decoded, Encoded, Object};
 use crate::ports::RemainingPower;
 use crate::refusal::Refusal;
 use crate::rules::{Placed, Profile, Profiled};
+use crate::sinks::{SinkDecoded, SinkObject, SinkObjects, SinkReading};
 use crate::steps::{HalfWatts, InMa10, InMa50, InMv100, InMv20, InMv25, InMv50};
 use crate::steps::{Ma10, Ma50, Mv100, Mv20, Mv25, Mv50};
 use crate::verdicts::{self, Verdict};
@@ -57,6 +58,7 @@ value_beside_verdict! {
     Reading { list: Objects } "list of objects";
     FlatReading { list: FlatObjects } "list of flat objects";
     MessageReading { message: Message } "message";
+    SinkReading { list: SinkObjects } "list of sink objects";
     Profiled { profile: Profile } "profile";
     RemainingPower { power: HalfWatts } "power that no port holds";
 }
@@ -101,6 +103,7 @@ macro_rules! value_or_refusal {
 
 value_or_refusal! {
     Decoded::Known(Object) else NotAllowed is KIND_NOT_ALLOWED "object of the word, or refusal 12 without a place";
+    SinkDecoded::Known(SinkObject) else NotAllowed is KIND_NOT_ALLOWED "sink object of the word, or refusal 12 without a place";
     Encoded::Word(u32) else TooWide is FIELD_TOO_WIDE "word of the object, or refusal 7 without a place";
     Placed::Word(u32) else NoPlace is POSITION "word at the place, or refusal 20";
     Raised::Known(Object) else Unknown is KIND_NOT_ALLOWED "object of the flat one, or refusal 12 without a place";

@@ -6,6 +6,7 @@ use crate::lists::{Objects, Place, Words};
 use crate::messages::Message;
 use crate::objects::Object;
 use crate::refusal::Refusal;
+use crate::sinks::{SinkObject, SinkObjects, SinkPlace};
 use crate::verdicts;
 
 const COUNT: Refusal = Refusal::known(verdicts::COUNT);
@@ -38,7 +39,8 @@ impl AsRef<[u32]> for Words {
     }
 }
 
-/// Refused with 10 where they are more than seven. Nothing else is looked at: `lists::shape` does that.
+/// Refused with 10 where they are more than seven. Nothing else is looked at: `lists::shape` does that, and for a sink
+/// `sinks::sink_shape`.
 impl TryFrom<&[u32]> for Words {
     type Error = Refusal;
 
@@ -69,6 +71,30 @@ impl TryFrom<&[Object]> for Objects {
     fn try_from(objects: &[Object]) -> Result<Objects, Refusal> {
         let (places, count) = placed(objects)?;
         Ok(Objects { places, count })
+    }
+}
+
+impl SinkObjects {
+    /// The places that count. A count above seven, which `sinks::sink_write` refuses, gives all seven.
+    #[must_use]
+    pub fn as_slice(&self) -> &[SinkPlace] {
+        counted(&self.places, self.count)
+    }
+}
+
+impl From<SinkObject> for SinkPlace {
+    fn from(object: SinkObject) -> SinkPlace {
+        SinkPlace { object }
+    }
+}
+
+/// Refused with 10 where they are more than seven. Nothing else is looked at: `sinks::sink_write` does that.
+impl TryFrom<&[SinkObject]> for SinkObjects {
+    type Error = Refusal;
+
+    fn try_from(objects: &[SinkObject]) -> Result<SinkObjects, Refusal> {
+        let (places, count) = placed(objects)?;
+        Ok(SinkObjects { places, count })
     }
 }
 

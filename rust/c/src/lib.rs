@@ -67,6 +67,26 @@ pub extern "C" fn arin_answer(list: Words, word: u32) -> Verdict {
     board::arin_answer(list, word)
 }
 
+#[no_mangle]
+pub extern "C" fn arin_sink_shape(list: Words) -> Verdict {
+    board::arin_sink_shape(list)
+}
+
+#[no_mangle]
+pub extern "C" fn arin_sink_read(list: Words) -> FlatReading {
+    board::arin_sink_read(list)
+}
+
+#[no_mangle]
+pub extern "C" fn arin_sink_write(list: FlatObjects) -> Listing {
+    board::arin_sink_write(list)
+}
+
+#[no_mangle]
+pub extern "C" fn arin_sink_check(rating: u16, list: Words) -> Verdict {
+    board::arin_sink_check(rating, list)
+}
+
 /// # Safety
 /// As `shown` and `lent` say, here and in the calls below.
 #[no_mangle]
