@@ -2,6 +2,7 @@
 
 use crate::{Listing, Verdict, Words};
 
+/// "M, or the rating of a sink, outside 1 to 200"
 pub const MAX_POWER: u8 = 1;
 pub const PRESENT_POWER: u8 = 2;
 pub const CABLE: u8 = 3;
@@ -36,6 +37,7 @@ pub const NOT_SOUND: u8 = 37;
 pub const LENGTH: u8 = 40;
 pub const MESSAGE_TYPE: u8 = 41;
 pub const EXTENDED: u8 = 42;
+pub const CEILING: u8 = 43;
 pub const HEADER_TOO_WIDE: u8 = 51;
 pub const BUFFER: u8 = 52;
 pub const REQUEST_COUNT: u8 = 53;

@@ -11,6 +11,7 @@ mod messages;
 mod ports;
 mod requests;
 mod rules;
+mod sinks;
 mod steps;
 #[cfg(test)]
 mod tests;
@@ -22,6 +23,11 @@ pub use messages::{read_message, take_message, write_message};
 pub use ports::{advertise, attach, detach, remaining, request, set_up};
 pub use requests::{answer, judge, position, take_apart};
 pub use rules::{build, check, default_profile};
+pub use sinks::{
+    decode_for, reserved_bit_set_for, sink_check, sink_decode, sink_encode, sink_flat_read,
+    sink_flat_write, sink_flatten, sink_raise, sink_read, sink_reserved_bit_set, sink_shape,
+    sink_write,
+};
 pub use steps::{convert, round_both, round_down, round_up};
 pub use words::{decode, encode, reserved_bit_set};
 
@@ -104,7 +110,36 @@ pub struct Reading {
     pub list: Objects,
 }
 
+/// What a sink needs; figures in the object's own steps, as in its word.
+#[derive(Clone, Copy, Debug, PartialEq, Eq)]
+pub enum SinkObject {
+    Fixed { flags: u8, volts: u16, current: u16 },
+    Battery { max: u16, min: u16, power: u16 },
+    Variable { max: u16, min: u16, current: u16 },
+    Pps { max: u16, min: u16, current: u16 },
+}
+
+#[derive(Clone, Copy, Debug, PartialEq, Eq)]
+pub struct SinkObjects {
+    pub places: [SinkObject; 7],
+    pub count: u8,
+}
+
+#[derive(Clone, Copy, Debug, PartialEq, Eq)]
+pub struct SinkReading {
+    pub verdict: Verdict,
+    pub list: SinkObjects,
+}
+
+/// Whose word it is.
+#[derive(Clone, Copy, Debug, PartialEq, Eq)]
+pub enum Side {
+    Source,
+    Sink,
+}
+
 /// One struct for all kinds, as C has it. kind: 0 fixed, 1 battery, 2 variable, 3 PPS, 4 AVS.
+/// "C hands in sink objects in the struct of the source side, with the same kind numbers".
 #[derive(Clone, Copy, Debug, PartialEq, Eq, Default)]
 #[repr(C)]
 pub struct FlatObject {

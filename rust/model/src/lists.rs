@@ -5,14 +5,14 @@ use crate::words::{decode, encode, reserved_bit_set};
 use crate::{Listing, Object, Objects, Reading, Verdict, Words};
 
 /// Voltages of fixed objects, in 50 mV.
-const V5: u16 = 100;
+pub const V5: u16 = 100;
 const V15: u16 = 300;
-const V20: u16 = 400;
+pub const V20: u16 = 400;
 
 /// 21 V in 50 mV and in 100 mV, 100 W in 250 mW and in 50 mV times 10 mA.
-const MOST_50MV: u16 = 420;
-const MOST_100MV: u16 = 210;
-const MOST_BATTERY: u16 = 400;
+pub const MOST_50MV: u16 = 420;
+pub const MOST_100MV: u16 = 210;
+pub const MOST_BATTERY: u16 = 400;
 const MOST_PRODUCT: u32 = 200_000;
 
 /// What a place past the count holds.
@@ -72,7 +72,7 @@ pub fn object_at(list: &Words, place: u8) -> Option<Object> {
     decode(*list.words.get(usize::from(place) - 1)?)
 }
 
-fn check_count(count: u8) -> Result<(), Verdict> {
+pub fn check_count(count: u8) -> Result<(), Verdict> {
     if !(1..=7).contains(&count) {
         return refuse(COUNT, 0);
     }
@@ -99,7 +99,7 @@ pub fn scan(
 }
 
 /// An object of no kind "gets 11 where it is the first object and 12 in its turn elsewhere".
-fn refuse_kind<T>(place: u8) -> Result<T, Verdict> {
+pub fn refuse_kind<T>(place: u8) -> Result<T, Verdict> {
     refuse(if place == 1 { FIRST_OBJECT } else { KIND }, place)
 }
 
@@ -176,6 +176,6 @@ impl Scan {
 }
 
 /// In 50 mV and 10 mA.
-fn within_100_watts(volts: u16, current: u16) -> bool {
+pub fn within_100_watts(volts: u16, current: u16) -> bool {
     u32::from(volts) * u32::from(current) <= MOST_PRODUCT
 }
