@@ -64,6 +64,26 @@ pub extern "C" fn model_answer(list: &Words, word: u32) -> Verdict {
     model::answer(list, word)
 }
 
+#[no_mangle]
+pub extern "C" fn model_sink_shape(list: &Words) -> Verdict {
+    model::sink_shape(list)
+}
+
+#[no_mangle]
+pub extern "C" fn model_sink_read(list: &Words) -> FlatReading {
+    model::sink_flat_read(list)
+}
+
+#[no_mangle]
+pub extern "C" fn model_sink_write(list: &FlatObjects) -> Listing {
+    model::sink_flat_write(list)
+}
+
+#[no_mangle]
+pub extern "C" fn model_sink_check(rating: u16, list: &Words) -> Verdict {
+    model::sink_check(rating, list)
+}
+
 /// # Safety
 /// As `lent_to_read` says, here and in the next call.
 #[no_mangle]
