@@ -4,6 +4,7 @@ mod by_hand;
 mod messages;
 mod refusals;
 mod reserved;
+mod sinks;
 
 use crate::*;
 
