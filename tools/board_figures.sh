@@ -95,7 +95,7 @@ while read -r call _ _ stack _ _ model_stack; do
   echo "| $call | $(flash "$library" "$call") | $(flash "$model" "model_${call#arin_}") | $stack | $model_stack |"
 done < <(paste -d ' ' "$made/library.figures" <(cut -d ' ' -f 4 "$made/model.figures"))
 # shellcheck disable=SC2086 # the calls are several words
-echo "| all sixteen | $(flash "$library" $calls) | $(flash "$model" ${calls//arin_/model_}) | | |"
+echo "| all twenty | $(flash "$library" $calls) | $(flash "$model" ${calls//arin_/model_}) | | |"
 echo
 echo -n "| call | instructions, library | model | library / model | the most, library | model | library / model |"
 echo " divisions, library | model | the most, library | model |"

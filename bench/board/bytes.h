@@ -85,6 +85,13 @@ static void take_profile_and_list(void)
     take_list();
 }
 
+/* The rating is handed over where a port maximum is. */
+static void take_rating_and_list(void)
+{
+    take_max();
+    take_list();
+}
+
 static void take_list_and_word(void)
 {
     take_list();

@@ -26,6 +26,10 @@ struct arin_verdict model_shape(const struct arin_words *list);
 struct arin_flat_reading model_read(const struct arin_words *list);
 struct arin_listing model_write(const struct arin_flat_objects *list);
 struct arin_verdict model_answer(const struct arin_words *list, uint32_t word);
+struct arin_verdict model_sink_shape(const struct arin_words *list);
+struct arin_flat_reading model_sink_read(const struct arin_words *list);
+struct arin_listing model_sink_write(const struct arin_flat_objects *list);
+struct arin_verdict model_sink_check(uint16_t rating, const struct arin_words *list);
 struct arin_message_reading model_read_message(const uint8_t *bytes, size_t length);
 struct arin_message_reading model_take_message(const uint8_t *bytes, size_t length);
 struct arin_written model_write_message(uint8_t *bytes, size_t length, const struct arin_message *message);
@@ -131,6 +135,26 @@ static void call_answer(void)
     ASK(verdict, CALL(answer)(GIVE(list), word));
 }
 
+static void call_sink_shape(void)
+{
+    ASK(verdict, CALL(sink_shape)(GIVE(list)));
+}
+
+static void call_sink_read(void)
+{
+    ASK(reading, CALL(sink_read)(GIVE(list)));
+}
+
+static void call_sink_write(void)
+{
+    ASK(listing, CALL(sink_write)(GIVE(objects)));
+}
+
+static void call_sink_check(void)
+{
+    ASK(verdict, CALL(sink_check)(max, GIVE(list)));
+}
+
 static void call_read_message(void)
 {
     ASK(message_reading, CALL(read_message)(lent, length));
@@ -189,6 +213,10 @@ static const struct {
     { "arin_read", take_list, call_read, give_reading },
     { "arin_write", take_objects, call_write, give_listing },
     { "arin_answer", take_list_and_word, call_answer, give_verdict },
+    { "arin_sink_shape", take_list, call_sink_shape, give_verdict },
+    { "arin_sink_read", take_list, call_sink_read, give_reading },
+    { "arin_sink_write", take_objects, call_sink_write, give_listing },
+    { "arin_sink_check", take_rating_and_list, call_sink_check, give_verdict },
     { "arin_read_message", take_bytes, call_read_message, give_message_reading },
     { "arin_take_message", take_bytes, call_take_message, give_message_reading },
     { "arin_write_message", take_message_and_room, call_write_message, give_written_and_bytes },

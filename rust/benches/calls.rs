@@ -19,6 +19,8 @@ mod messages;
 mod objects;
 #[path = "calls/rows.rs"]
 mod rows;
+#[path = "calls/sinks.rs"]
+mod sinks;
 #[path = "calls/tables.rs"]
 mod tables;
 #[path = "calls/translate.rs"]

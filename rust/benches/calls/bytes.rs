@@ -4,7 +4,7 @@
 use crate::inputs::{self, Turn};
 use crate::messages::{self, Lent, ROOM};
 use crate::wrappers::library;
-use crate::{hardest, lists, objects, tables};
+use crate::{hardest, lists, objects, sinks, tables};
 use arinduleu::flat::{FlatObject, FlatObjects, FlatReading};
 use arinduleu::lists::{Listing, Words};
 use arinduleu::messages::{Header, Message, MessageReading, Written};
@@ -136,6 +136,18 @@ pub fn of_all_calls() -> Streams {
     });
     all.add(objects::answers(), hardest::answers(), |(l, w)| {
         library::answer(*l, *w)
+    });
+    all.add(sinks::lists(), hardest::sink_lists(), |l| {
+        library::sink_shape(*l)
+    });
+    all.add(sinks::lists(), hardest::sink_lists(), |l| {
+        library::sink_flat_read(*l)
+    });
+    all.add(sinks::flat_lists(), hardest::sink_flat_lists(), |l| {
+        library::sink_flat_write(*l)
+    });
+    all.add(sinks::checks(), hardest::sink_checks(), |(r, l)| {
+        library::sink_check(*r, *l)
     });
     all.add(messages::bytes(), hardest::bytes(), |b| {
         library::read_message(b.first())

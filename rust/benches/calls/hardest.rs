@@ -1,17 +1,21 @@
 //! Inputs that ask for the most work: every full port with its own list, and for the rule check with a step past 3 A; lists of seven objects
-//! in every mix of kinds; and eight rows that are all in use. They stand beside the seeded ones where the most that a call takes is looked for.
+//! in every mix of kinds, of a source and of a sink; and eight rows that are all in use. They stand beside the seeded ones where the most that a
+//! call takes is looked for.
 
 use crate::inputs::Turn;
 use crate::lists::{fixed, push};
 use crate::messages::{lent, Lent, ROOM};
+use crate::sinks;
 use crate::tables::NO_ROW;
 use crate::wrappers::library::{attach, build, decode, detach, flat_read, request, set_up, shape};
+use crate::wrappers::library::{sink_flat_read, sink_shape};
 use arinduleu::flat::FlatObjects;
 use arinduleu::lists::Words;
 use arinduleu::messages::{Header, Message};
 use arinduleu::objects::{Decoded, Object};
 use arinduleu::ports::Row;
 use arinduleu::rules::Profile;
+use arinduleu::sinks::SinkObject;
 use arinduleu::steps::{HalfWatts, Ma10, Ma50, Mv100, Mv50, Mw250};
 use arinduleu::verdicts;
 
@@ -143,6 +147,78 @@ pub fn checks() -> Vec<(Profile, Words)> {
 
 pub fn flat_lists() -> Vec<FlatObjects> {
     lists().into_iter().map(|l| flat_read(l).list).collect()
+}
+
+/// Seven objects of a sink: so many fixed, battery and variable, and PPS for the rest, first of the ranges that have volts of their own.
+fn sink_mix(fixed_ones: usize, batteries: usize, variables: usize) -> Words {
+    let mut list = Words::default();
+    let volts = [100, 180, 200, 240, 300, 360, 400];
+    for (at, volts) in volts[..fixed_ones].iter().enumerate() {
+        let flags = if at == 0 { 127 } else { 0 };
+        sinks::push(&mut list, sinks::fixed(flags, *volts, 500));
+    }
+    for _ in 0..batteries {
+        sinks::push(
+            &mut list,
+            SinkObject::Battery {
+                max: Mv50(420),
+                min: Mv50(60),
+                power: Mw250(400),
+            },
+        );
+    }
+    for _ in 0..variables {
+        sinks::push(
+            &mut list,
+            SinkObject::Variable {
+                max: Mv50(400),
+                min: Mv50(60),
+                current: Ma10(500),
+            },
+        );
+    }
+    for max in [110, 160, 210, 210, 210, 210] {
+        sinks::push(
+            &mut list,
+            SinkObject::Pps {
+                max: Mv100(max),
+                min: Mv100(50),
+                current: Ma50(100),
+            },
+        );
+    }
+    list
+}
+
+/// Every mix whose shape passes.
+pub fn sink_lists() -> Vec<Words> {
+    let mut all = Vec::new();
+    for fixed_ones in 1..=7 {
+        for batteries in 0..=7 - fixed_ones {
+            for variables in 0..=7 - fixed_ones - batteries {
+                all.push(sink_mix(fixed_ones, batteries, variables));
+            }
+        }
+    }
+    all.retain(|list| sink_shape(*list).number == verdicts::SUCCESS);
+    all
+}
+
+/// At the highest rating every figure is judged, and none is above its ceiling.
+pub fn sink_checks() -> Vec<(u16, Words)> {
+    sink_lists().into_iter().map(|list| (200, list)).collect()
+}
+
+/// With something in the fields that no sink has.
+pub fn sink_flat_lists() -> Vec<FlatObjects> {
+    let flat = |list| {
+        let mut flat = sink_flat_read(list).list;
+        for place in &mut flat.places {
+            (place.peak, place.limited) = (255, 255);
+        }
+        flat
+    };
+    sink_lists().into_iter().map(flat).collect()
 }
 
 /// All that an object has, at its highest voltage; of AVS at 15.0 V, which belongs to both ranges.

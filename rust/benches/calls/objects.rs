@@ -5,7 +5,7 @@ use crate::lists::{good_list, list};
 use crate::wrappers::library::{decode, flatten};
 use arinduleu::flat::FlatObject;
 use arinduleu::lists::Words;
-use arinduleu::objects::{Decoded, Object};
+use arinduleu::objects::{Decoded, Object, Side};
 use arinduleu::steps::{Ma10, Ma50, Mw250};
 
 /// The words of lists; one in sixteen is any word at all.
@@ -19,6 +19,18 @@ fn word(dice: &mut Dice) -> u32 {
 
 pub fn words() -> Vec<u32> {
     many(11, word)
+}
+
+fn side(dice: &mut Dice) -> Side {
+    match dice.one_in(2) {
+        true => Side::Sink,
+        false => Side::Source,
+    }
+}
+
+/// The words of sources, half of them for a sink.
+pub fn words_of_a_side() -> Vec<(Side, u32)> {
+    many(32, |dice| (side(dice), word(dice)))
 }
 
 fn good_object(dice: &mut Dice) -> (Object, u32) {
@@ -89,11 +101,11 @@ pub fn flat_objects() -> Vec<FlatObject> {
     })
 }
 
-/// One in four is the first of its list; one in sixteen has any bits at all.
-pub fn placed_words() -> Vec<(Object, bool, u32)> {
+/// One in four is the first of its list; one in sixteen has any bits at all. Half are for a sink.
+pub fn placed_words() -> Vec<((Side, Object), bool, u32)> {
     many(14, |dice| {
         let (object, word) = good_object(dice);
-        (object, dice.one_in(4), word)
+        ((side(dice), object), dice.one_in(4), word)
     })
 }
 

@@ -5,6 +5,7 @@ use crate::lists;
 use crate::measure::{call, port_call, writing_call, Row};
 use crate::messages;
 use crate::objects;
+use crate::sinks;
 use crate::tables;
 use crate::wrappers::{library, plain};
 use std::hint::black_box;
@@ -39,6 +40,7 @@ macro_rules! port_row {
 pub fn all() -> Vec<Row> {
     let mut rows = of_the_loop();
     rows.extend(of_lists());
+    rows.extend(of_sinks());
     rows.extend(of_messages());
     rows.extend(of_ports());
     rows.extend(of_objects());
@@ -65,6 +67,19 @@ fn of_lists() -> Vec<Row> {
         row!("arin_answer", objects::answers(), answer as fn(_, _) -> _ | fn(&_, _) -> _, |(l, w)| (*l, *w), |(l, w)| (l, *w)),
         row!("lists::read", lists::lists(), read as fn(_) -> _ | fn(&_) -> _, |l| (*l), |l| (l)),
         row!("lists::write", lists::object_lists(), write as fn(_) -> _ | fn(&_) -> _, |l| (*l), |l| (l)),
+    ]
+}
+
+fn of_sinks() -> Vec<Row> {
+    vec![
+        row!("arin_sink_shape", sinks::lists(), sink_shape as fn(_) -> _ | fn(&_) -> _, |l| (*l), |l| (l)),
+        row!("arin_sink_read", sinks::lists(), sink_flat_read as fn(_) -> _ | fn(&_) -> _, |l| (*l), |l| (l)),
+        row!("arin_sink_write", sinks::flat_lists(), sink_flat_write as fn(_) -> _ | fn(&_) -> _, |l| (*l), |l| (l)),
+        row!("arin_sink_check", sinks::checks(), sink_check as fn(_, _) -> _ | fn(_, &_) -> _, |(r, l)| (*r, *l), |(r, l)| (*r, l)),
+        row!("sinks::sink_read", sinks::lists(), sink_read as fn(_) -> _ | fn(&_) -> _, |l| (*l), |l| (l)),
+        row!("sinks::sink_write", sinks::object_lists(), sink_write as fn(_) -> _ | fn(&_) -> _, |l| (*l), |l| (l)),
+        row!("sinks::sink_decode", sinks::words(), sink_decode as fn(u32) -> _ | fn(u32) -> _, |w| (*w), |w| (*w)),
+        row!("sinks::sink_encode", sinks::objects(), sink_encode as fn(_) -> _ | fn(&_) -> _, |o| (*o), |o| (o)),
     ]
 }
 
@@ -106,8 +121,10 @@ fn of_objects() -> Vec<Row> {
     vec![
         row!("objects::decode", objects::words(), decode as fn(u32) -> _ | fn(u32) -> _, |w| (*w), |w| (*w)),
         row!("objects::encode", objects::objects(), encode as fn(_) -> _ | fn(&_) -> _, |o| (*o), |o| (o)),
-        row!("objects::reserved_bit_set", objects::placed_words(), reserved_bit_set as fn(_, _, _) -> _ | fn(&_, _, _) -> _,
-            |(o, first, w)| (*o, *first, *w), |(o, first, w)| (o, *first, *w)),
+        row!("objects::decode_for", objects::words_of_a_side(), decode_for as fn(_, u32) -> _ | fn(_, u32) -> _,
+            |(s, w)| (*s, *w), |(s, w)| (*s, *w)),
+        row!("objects::reserved_bit_set", objects::placed_words(), reserved_bit_set as fn(_, _, _, _) -> _ | fn(_, &_, _, _) -> _,
+            |((s, o), first, w)| (*s, *o, *first, *w), |((s, o), first, w)| (*s, o, *first, *w)),
         row!("flat::flatten", objects::objects(), flatten as fn(_) -> _ | fn(&_) -> _, |o| (*o), |o| (o)),
         row!("flat::raise", objects::flat_objects(), raise as fn(_) -> _ | fn(&_) -> _, |o| (*o), |o| (o)),
         row!("requests::position", objects::request_words(), position as fn(u32) -> _ | fn(u32) -> _, |w| (*w), |w| (*w)),

@@ -5,10 +5,11 @@ use crate::messages::Lent;
 use arinduleu::flat::{FlatObject, FlatObjects, FlatReading, Raised};
 use arinduleu::lists::{Listing, Objects, Reading, Words};
 use arinduleu::messages::{Header, Message, MessageReading, Written};
-use arinduleu::objects::{Decoded, Encoded, Object};
+use arinduleu::objects::{Decoded, Encoded, Object, Side};
 use arinduleu::ports::{RemainingPower, Row};
 use arinduleu::requests::{Asked, Request};
 use arinduleu::rules::{Profile, Profiled};
+use arinduleu::sinks::{SinkDecoded, SinkObject, SinkObjects, SinkReading};
 use arinduleu::steps::{InMa10, InMa50, InMv100, InMv20, InMv50, Roundings};
 use arinduleu::verdicts::Verdict;
 
@@ -102,6 +103,16 @@ translate! {
     };
     Objects => model::Objects: |l| model::Objects { places: l.places.map(|place| place.object.plain()), count: l.count };
     Reading => model::Reading: |r| model::Reading { verdict: r.verdict.plain(), list: r.list.plain() };
+    Side => model::Side: |s| match s { Side::Source => model::Side::Source, Side::Sink => model::Side::Sink };
+    SinkObject => model::SinkObject: |o| match o {
+        SinkObject::Fixed { flags, volts, current } => model::SinkObject::Fixed { flags, volts: volts.0, current: current.0 },
+        SinkObject::Battery { max, min, power } => model::SinkObject::Battery { max: max.0, min: min.0, power: power.0 },
+        SinkObject::Variable { max, min, current } => model::SinkObject::Variable { max: max.0, min: min.0, current: current.0 },
+        SinkObject::Pps { max, min, current } => model::SinkObject::Pps { max: max.0, min: min.0, current: current.0 },
+    };
+    SinkObjects => model::SinkObjects: |l| model::SinkObjects { places: l.places.map(|place| place.object.plain()), count: l.count };
+    SinkReading => model::SinkReading: |r| model::SinkReading { verdict: r.verdict.plain(), list: r.list.plain() };
+    SinkDecoded => Option<model::SinkObject>: |d| match d { SinkDecoded::Known(o) => Some(o.plain()), SinkDecoded::NotAllowed => None };
     FlatObject => model::FlatObject: |f| model::FlatObject {
         kind: f.kind, flags: f.flags, peak: f.peak, limited: f.limited, volts: f.volts.0, max: f.max.0, min: f.min.0,
         power: f.power.0, current: f.current.0, max100: f.max100.0, min100: f.min100.0, current50: f.current50.0,

@@ -15,10 +15,11 @@ pub mod library {
     use arinduleu::flat::{self, FlatObject, FlatObjects, FlatReading, Raised};
     use arinduleu::lists::{self, Listing, Objects, Reading, Words};
     use arinduleu::messages::{Message, MessageReading, Written};
-    use arinduleu::objects::{self, Decoded, Encoded, Object};
+    use arinduleu::objects::{self, Decoded, Encoded, Object, Side};
     use arinduleu::ports::{RemainingPower, Row};
     use arinduleu::requests::{self, Asked};
     use arinduleu::rules::{Profile, Profiled};
+    use arinduleu::sinks::{self, SinkDecoded, SinkObject, SinkObjects, SinkReading};
     use arinduleu::steps::{
         self, InMa10, InMa50, InMv100, InMv20, InMv50, Ma10, Ma50, Mv100, Mv20, Mv25, Mv50,
         Roundings,
@@ -37,6 +38,11 @@ pub mod library {
         flat_write(list: FlatObjects) -> Listing = board::arin_write(list);
         answer(list: Words, word: u32) -> Verdict = board::arin_answer(list, word);
 
+        sink_shape(list: Words) -> Verdict = board::arin_sink_shape(list);
+        sink_flat_read(list: Words) -> FlatReading = board::arin_sink_read(list);
+        sink_flat_write(list: FlatObjects) -> Listing = board::arin_sink_write(list);
+        sink_check(rating: u16, list: Words) -> Verdict = board::arin_sink_check(rating, list);
+
         read_message(bytes: &[u8]) -> MessageReading = board::arin_read_message(bytes);
         take_message(bytes: &[u8]) -> MessageReading = board::arin_take_message(bytes);
         write_message(bytes: &mut [u8], message: Message) -> Written = board::arin_write_message(bytes, message);
@@ -50,9 +56,15 @@ pub mod library {
 
         decode(word: u32) -> Decoded = objects::decode(word);
         encode(object: Object) -> Encoded = objects::encode(object);
-        reserved_bit_set(object: Object, first: bool, word: u32) -> bool = objects::reserved_bit_set(object, first, word);
+        decode_for(side: Side, word: u32) -> Decoded = objects::decode_for(side, word);
+        reserved_bit_set(side: Side, object: Object, first: bool, word: u32) -> bool =
+            objects::reserved_bit_set(side, object, first, word);
         read(list: Words) -> Reading = lists::read(list);
         write(list: Objects) -> Listing = lists::write(list);
+        sink_decode(word: u32) -> SinkDecoded = sinks::sink_decode(word);
+        sink_encode(object: SinkObject) -> Encoded = sinks::sink_encode(object);
+        sink_read(list: Words) -> SinkReading = sinks::sink_read(list);
+        sink_write(list: SinkObjects) -> Listing = sinks::sink_write(list);
         flatten(object: Object) -> FlatObject = flat::flatten(object);
         raise(object: FlatObject) -> Raised = flat::raise(object);
         position(word: u32) -> u8 = requests::position(word);
@@ -73,7 +85,8 @@ pub mod library {
 pub mod plain {
     use model::{
         Asked, FlatObject, FlatObjects, FlatReading, Listing, Message, MessageReading, Object,
-        Objects, Profile, Profiled, Reading, RemainingPower, Row, Verdict, Words, Written,
+        Objects, Profile, Profiled, Reading, RemainingPower, Row, Side, SinkObject, SinkObjects,
+        SinkReading, Verdict, Words, Written,
     };
 
     wrap! {
@@ -88,6 +101,11 @@ pub mod plain {
         flat_write(list: &FlatObjects) -> Listing = model::flat_write(list);
         answer(list: &Words, word: u32) -> Verdict = model::answer(list, word);
 
+        sink_shape(list: &Words) -> Verdict = model::sink_shape(list);
+        sink_flat_read(list: &Words) -> FlatReading = model::sink_flat_read(list);
+        sink_flat_write(list: &FlatObjects) -> Listing = model::sink_flat_write(list);
+        sink_check(rating: u16, list: &Words) -> Verdict = model::sink_check(rating, list);
+
         read_message(bytes: &[u8]) -> MessageReading = model::read_message(bytes);
         take_message(bytes: &[u8]) -> MessageReading = model::take_message(bytes);
         write_message(bytes: &mut [u8], message: &Message) -> Written = model::write_message(bytes, message);
@@ -101,9 +119,15 @@ pub mod plain {
 
         decode(word: u32) -> Option<Object> = model::decode(word);
         encode(object: &Object) -> Option<u32> = model::encode(object);
-        reserved_bit_set(object: &Object, first: bool, word: u32) -> bool = model::reserved_bit_set(object, first, word);
+        decode_for(side: Side, word: u32) -> Option<Object> = model::decode_for(side, word);
+        reserved_bit_set(side: Side, object: &Object, first: bool, word: u32) -> bool =
+            model::reserved_bit_set_for(side, object, first, word);
         read(list: &Words) -> Reading = model::read(list);
         write(list: &Objects) -> Listing = model::write(list);
+        sink_decode(word: u32) -> Option<SinkObject> = model::sink_decode(word);
+        sink_encode(object: &SinkObject) -> Option<u32> = model::sink_encode(object);
+        sink_read(list: &Words) -> SinkReading = model::sink_read(list);
+        sink_write(list: &SinkObjects) -> Listing = model::sink_write(list);
         flatten(object: &Object) -> FlatObject = model::flatten(object);
         raise(object: &FlatObject) -> Option<Object> = model::raise(object);
         position(word: u32) -> u8 = model::position(word);
