@@ -1,7 +1,7 @@
 //! The library's values as the model's, which counts in plain numbers, and back.
 
 use arinduleu::steps::{HalfWatts, Ma10, Ma50, Mv100, Mv20, Mv25, Mv50, Mw250};
-use arinduleu::{flat, lists, messages, objects, ports, requests, rules, verdicts};
+use arinduleu::{flat, lists, messages, objects, ports, requests, rules, sinks, verdicts};
 
 pub trait ToModel {
     type Model;
@@ -86,6 +86,7 @@ structs! {
     messages::Message { words } {} { header }
     messages::MessageReading {} {} { verdict, message }
     messages::Written { length } {} { verdict }
+    sinks::SinkReading {} {} { verdict, list }
 }
 
 enums! {
@@ -95,6 +96,16 @@ enums! {
         Variable {} { max: Mv50, min: Mv50, current: Ma10 }
         Pps { limited } { max: Mv100, min: Mv100, current: Ma50 }
         Avs { peak } { low: Ma10, high: Ma10 }
+    }
+    objects::Side {
+        Source {} {}
+        Sink {} {}
+    }
+    sinks::SinkObject {
+        Fixed { flags } { volts: Mv50, current: Ma10 }
+        Battery {} { max: Mv50, min: Mv50, power: Mw250 }
+        Variable {} { max: Mv50, min: Mv50, current: Ma10 }
+        Pps {} { max: Mv100, min: Mv100, current: Ma50 }
     }
     requests::Request {
         Fixed {} { operating: Ma10, maximum: Ma10 }
@@ -122,6 +133,29 @@ impl ToLibrary for model::Objects {
             object: o.library(),
         };
         lists::Objects {
+            places: self.places.map(place),
+            count: self.count,
+        }
+    }
+}
+
+impl ToModel for sinks::SinkObjects {
+    type Model = model::SinkObjects;
+    fn model(self) -> model::SinkObjects {
+        model::SinkObjects {
+            places: self.places.map(|p| p.object.model()),
+            count: self.count,
+        }
+    }
+}
+
+impl ToLibrary for model::SinkObjects {
+    type Library = sinks::SinkObjects;
+    fn library(self) -> sinks::SinkObjects {
+        let place = |o: model::SinkObject| sinks::SinkPlace {
+            object: o.library(),
+        };
+        sinks::SinkObjects {
             places: self.places.map(place),
             count: self.count,
         }

@@ -4,6 +4,7 @@ use crate::common::convert::{ToLibrary, ToModel};
 use crate::common::random::Random;
 use crate::common::run::Run;
 use crate::{lists_made, objects_made, words};
+use arinduleu::objects::Side;
 use arinduleu::{board, flat, lists};
 use model::{FlatObjects, Object, Objects, Verdict};
 
@@ -18,6 +19,8 @@ fn lists_read() {
         let words = list.library();
         run.same("shape", &list, lists::shape(words).model(), shape);
         run.same("arin_shape", &list, board::arin_shape(words).model(), shape);
+        let by_side = lists::shape_for(Side::Source, words).model();
+        run.same("shape_for a source", &list, by_side, shape);
         run.same(
             "read",
             &list,
@@ -27,6 +30,8 @@ fn lists_read() {
         let flat = model::flat_read(&list);
         run.same("flat_read", &list, flat::flat_read(words).model(), flat);
         run.same("arin_read", &list, board::arin_read(words).model(), flat);
+        let by_side = flat::flat_read_for(Side::Source, words).model();
+        run.same("flat_read_for a source", &list, by_side, flat);
         run.saw(shape.number);
     }
     // 7 is for writing only.
@@ -100,6 +105,8 @@ fn lists_written() {
             board::arin_write(flat.library()).model(),
             written,
         );
+        let by_side = flat::flat_write_for(Side::Source, flat.library()).model();
+        run.same("flat_write_for a source", &flat, by_side, written);
         run.saw(written.verdict.number);
         if let Some(case) = no_kind(&flat, written.verdict) {
             run.reached(case);

@@ -102,7 +102,7 @@ fn fixed_part(random: &mut Random) -> Vec<Object> {
 }
 
 /// No more than 100 W, and often exactly as much as that allows.
-fn allowed(random: &mut Random, volts: u16) -> u16 {
+pub fn allowed(random: &mut Random, volts: u16) -> u16 {
     let full = (200_000 / u32::from(volts.max(1))).min(1023) as u16;
     if random.one_in(4) {
         full

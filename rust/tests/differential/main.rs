@@ -17,6 +17,9 @@ mod requests;
 mod requests_made;
 mod rows_made;
 mod rules;
+mod sink_words;
+mod sinks;
+mod sinks_made;
 mod standings;
 mod standings_made;
 mod steps;
@@ -31,6 +34,7 @@ fn every_number_of_the_statement_belongs_to_a_part() {
         rules::NUMBERS,
         requests::NUMBERS,
         messages::NUMBERS,
+        sinks::NUMBERS,
         ports::NUMBERS,
     ]
     .concat();
@@ -40,7 +44,7 @@ fn every_number_of_the_statement_belongs_to_a_part() {
         .chain(10..=20)
         .chain(22..=25)
         .chain(30..=37)
-        .chain(40..=42)
+        .chain(40..=43)
         .chain(51..=53)
         .collect();
     assert_eq!(all, stated);

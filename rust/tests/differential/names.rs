@@ -60,8 +60,13 @@ fn names_have_the_numbers_of_the_statement() {
         [30, 31, 32, 33, 34, 35, 36, 37]
     );
     assert_eq!(
-        [MESSAGE_LENGTH, TYPE_NOT_HANDLED, EXTENDED_MESSAGE],
-        [40, 41, 42]
+        [
+            MESSAGE_LENGTH,
+            TYPE_NOT_HANDLED,
+            EXTENDED_MESSAGE,
+            ABOVE_CEILING,
+        ],
+        [40, 41, 42, 43]
     );
     assert_eq!(
         [HEADER_FIELD_TOO_WIDE, BUFFER_TOO_SHORT, REQUEST_COUNT],

@@ -7,7 +7,8 @@ use crate::objects_made;
 use arinduleu::flat::{flatten, raise, Raised};
 use arinduleu::objects::{
     avs_word, decode, encode, fixed_word, is_kind, pps_word, reserved_bit_set, Decoded, Encoded,
-    BITS_AVS, BITS_BATTERY, BITS_EPR_AVS, BITS_FIXED, BITS_PPS, BITS_UNASSIGNED, BITS_VARIABLE,
+    Side, BITS_AVS, BITS_BATTERY, BITS_EPR_AVS, BITS_FIXED, BITS_PPS, BITS_UNASSIGNED,
+    BITS_VARIABLE,
 };
 use arinduleu::steps::{Ma10, Ma50, Mv100, Mv50};
 use model::{FlatObject, Object};
@@ -128,7 +129,7 @@ fn words_and_objects() {
         for w in [word, spoiled] {
             for first in [false, true] {
                 let reserved = model::reserved_bit_set(&judged, first, w);
-                let library = reserved_bit_set(judged.library(), first, w);
+                let library = reserved_bit_set(Side::Source, judged.library(), first, w);
                 run.same("reserved_bit_set", &(judged, first, w), library, reserved);
                 run.reached(if reserved { "reserved" } else { "not reserved" });
             }
