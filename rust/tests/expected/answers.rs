@@ -6,6 +6,7 @@ use arinduleu::messages::{self, Header, Message, LONGEST_MESSAGE};
 use arinduleu::objects::{self, Object};
 use arinduleu::ports::{Row, NO_ROW};
 use arinduleu::rules::{self, Profile};
+use arinduleu::sinks::{self, SinkObject, SinkObjects};
 use arinduleu::steps::{HalfWatts, Ma10, Ma50, Mv100, Mv20, Mv25, Mv50};
 use arinduleu::{board, requests, verdicts, Refusal};
 
@@ -67,6 +68,42 @@ fn messages_in_and_out() {
     let twice = Message { words, ..message };
     let order = refusal(verdicts::ORDER, 2);
     assert_eq!(sent(twice, &mut buffer), Err(order));
+}
+
+#[test]
+fn sink_lists() {
+    fn kept(rating: u16, needs: SinkObjects) -> Result<u8, Refusal> {
+        let list = sinks::sink_write(needs).ok()?;
+        sinks::sink_check(HalfWatts(rating), list).ok()?;
+        Ok(list.count)
+    }
+    let list = Words::try_from(&[0x3F81_912C, 0x0002_D0C8][..]).unwrap();
+    let needs = sinks::sink_read(list).ok().unwrap();
+    assert_eq!(kept(36, needs), Ok(2));
+    // 9 V at 2 A is 18 W.
+    let above = refusal(verdicts::ABOVE_CEILING, 0);
+    assert_eq!(kept(35, needs), Err(above));
+    assert_eq!(kept(0, needs), Err(refusal(verdicts::PORT_MAXIMUM, 0)));
+    let none = SinkObjects::default();
+    assert_eq!(kept(36, none), Err(refusal(verdicts::COUNT, 0)));
+    let twice = Words {
+        words: [list.words[0]; 7],
+        count: 2,
+    };
+    let flags = refusal(verdicts::RESERVED_BIT, 2);
+    assert_eq!(sinks::sink_read(twice).ok(), Err(flags));
+
+    let fixed = sinks::sink_decode(list.words[0]).ok().unwrap();
+    assert_eq!(sinks::sink_encode(fixed).ok(), Ok(list.words[0]));
+    let no_kind = refusal(verdicts::KIND_NOT_ALLOWED, 0);
+    assert_eq!(sinks::sink_decode(0xE004_B12C).ok(), Err(no_kind));
+    let wide = SinkObject::Fixed {
+        flags: 128,
+        volts: Mv50(100),
+        current: Ma10(300),
+    };
+    let too_wide = refusal(verdicts::FIELD_TOO_WIDE, 0);
+    assert_eq!(sinks::sink_encode(wide).ok(), Err(too_wide));
 }
 
 #[test]
@@ -147,6 +184,11 @@ fn answers_are_turned_into_results() {
     assert_eq!(read.unwrap().count, 6);
     let flat: Result<FlatObjects, Refusal> = flat::flat_read(list).into();
     assert_eq!(flat.unwrap().count, 6);
+    let none = Words::default();
+    let needs: Result<SinkObjects, Refusal> = sinks::sink_read(none).into();
+    assert_eq!(needs, Err(refusal(verdicts::COUNT, 0)));
+    let object: Result<SinkObject, Refusal> = sinks::sink_decode(0).into();
+    assert_eq!(object, Ok(SinkObject::default()));
     let message = Message::request(Header::default(), 0x4005_1545);
     let length: Result<usize, Refusal> = messages::write_message(&mut [0; 6], message).into();
     assert_eq!(length, Ok(6));

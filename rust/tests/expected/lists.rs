@@ -4,6 +4,7 @@ use arinduleu::flat::{FlatObject, FlatObjects};
 use arinduleu::lists::{Objects, Place, Words, EMPTY_PLACE};
 use arinduleu::messages::{Header, Message, REQUEST, SOURCE_CAPABILITIES};
 use arinduleu::objects::Object;
+use arinduleu::sinks::{SinkObject, SinkObjects, SinkPlace, EMPTY_SINK_PLACE};
 use arinduleu::steps::{Ma10, Mv50};
 use arinduleu::{verdicts, Refusal};
 
@@ -16,6 +17,7 @@ fn what_counts_is_a_slice() {
         ..FlatObject::default()
     });
     let places = words.map(|volts| Place::from(fixed(volts as u16)));
+    let needs = words.map(|volts| SinkPlace::from(needed(volts as u16)));
     for count in 0..=255 {
         let n = usize::from(count).min(7);
         let list = Words { words, count };
@@ -27,6 +29,8 @@ fn what_counts_is_a_slice() {
         };
         assert_eq!(Message { header, words }.as_slice(), &words[..n]);
         assert_eq!(Objects { places, count }.as_slice(), &places[..n]);
+        let places = needs;
+        assert_eq!(SinkObjects { places, count }.as_slice(), &needs[..n]);
         let places = flat;
         assert_eq!(FlatObjects { places, count }.as_slice(), &flat[..n]);
     }
@@ -37,6 +41,7 @@ fn a_slice_is_a_list() {
     let refused = Refusal::new(verdicts::COUNT, 0).unwrap();
     let words: Vec<u32> = (1..=9).collect();
     let objects: Vec<Object> = (1..=9).map(fixed).collect();
+    let needs: Vec<SinkObject> = (1..=9).map(needed).collect();
     for n in 0..=7 {
         let list = Words::try_from(&words[..n]).unwrap();
         assert_eq!(list.as_slice(), &words[..n]);
@@ -49,10 +54,16 @@ fn a_slice_is_a_list() {
             .zip(&objects[..n])
             .all(|(p, o)| p.object == *o));
         assert!(list.places[n..].iter().all(|p| *p == EMPTY_PLACE));
+        let list = SinkObjects::try_from(&needs[..n]).unwrap();
+        assert_eq!(usize::from(list.count), n);
+        let own = list.as_slice().iter().map(|p| p.object);
+        assert!(own.eq(needs[..n].iter().copied()));
+        assert!(list.places[n..].iter().all(|p| *p == EMPTY_SINK_PLACE));
     }
     for n in 8..=9 {
         assert_eq!(Words::try_from(&words[..n]), Err(refused));
         assert_eq!(Objects::try_from(&objects[..n]), Err(refused));
+        assert_eq!(SinkObjects::try_from(&needs[..n]), Err(refused));
     }
     assert_eq!(Words::try_from(&[0; 300][..]), Err(refused));
 }
@@ -98,6 +109,14 @@ fn fixed(volts: u16) -> Object {
     Object::Fixed {
         flags: 0,
         peak: 0,
+        volts: Mv50(volts),
+        current: Ma10(300),
+    }
+}
+
+fn needed(volts: u16) -> SinkObject {
+    SinkObject::Fixed {
+        flags: 0,
         volts: Mv50(volts),
         current: Ma10(300),
     }

@@ -3,9 +3,10 @@
 use arinduleu::flat::{FlatObject, FlatObjects, KIND_FIXED};
 use arinduleu::lists::{self, Objects, Place, Words, EMPTY_PLACE, NO_WORDS};
 use arinduleu::messages::{Header, Message, NO_MESSAGE};
-use arinduleu::objects::{self, Encoded, Object};
+use arinduleu::objects::{self, Encoded, Object, Side};
 use arinduleu::ports::{Row, NO_ROW};
 use arinduleu::rules::{self, Placed, Profile};
+use arinduleu::sinks::{self, SinkObject, SinkObjects, SinkPlace, EMPTY_SINK_PLACE};
 use arinduleu::steps::{HalfWatts, Ma10, Ma50, Mv100, Mv20, Mv25, Mv50, Mw250};
 use arinduleu::verdicts::{self, Verdict};
 use arinduleu::Refusal;
@@ -25,6 +26,11 @@ fn words_are_shown_in_hex() {
         format!("{:?}", Message::request(Header::default(), 0x4005_1545)),
         "Message { header: Header { extended: 0, count: 1, id: 0, power_role: 0, revision: 0, data_role: 0, message_type: 2 }, \
         words: [0x40051545, 0x00000000, 0x00000000, 0x00000000, 0x00000000, 0x00000000, 0x00000000] }"
+    );
+    let needs = sinks::sink_decode(0x0002_D0C8);
+    assert_eq!(
+        format!("{needs:?}"),
+        "Known(Fixed { flags: 0, volts: Mv50(180), current: Ma10(200) })"
     );
     let listing = lists::refuse(verdicts::ORDER, 3);
     assert!(format!("{listing:?}").contains("Words { words: [0x00000000, "));
@@ -46,6 +52,11 @@ fn defaults_are_all_zero() {
     assert_eq!(Place::default(), EMPTY_PLACE);
     assert_eq!(Objects::default().places, [EMPTY_PLACE; 7]);
     assert_eq!(Objects::default().count, 0);
+    assert_eq!(SinkObject::default(), EMPTY_SINK_PLACE.object);
+    assert_eq!(sinks::sink_encode(SinkObject::default()), Encoded::Word(0));
+    assert_eq!(SinkPlace::default(), EMPTY_SINK_PLACE);
+    assert_eq!(SinkObjects::default().places, [EMPTY_SINK_PLACE; 7]);
+    assert_eq!(SinkObjects::default().count, 0);
     assert_eq!(Message::default(), NO_MESSAGE);
     assert_eq!(Header::default(), NO_MESSAGE.header);
     assert_eq!(Row::default(), NO_ROW);
@@ -102,10 +113,14 @@ fn what_is_kept_in_collections() {
     assert_eq!(both::<Message>(&messages), 2);
     assert_eq!(both::<Header>(&messages.map(|m| m.header)), 1);
     assert_eq!(both::<Object>(&objects), 2);
+    let needs = lists.map(|l| sinks::sink_decode(l.words[2]).ok().unwrap());
+    assert_eq!(both::<SinkObject>(&needs), 2);
     assert_eq!(both::<Row>(&rows), 2);
     assert_eq!(both(&objects.map(arinduleu::flat::flatten)), 2);
     let hashed = HashSet::from(lists.map(lists::read));
     assert_eq!(hashed.len(), 2);
+    let sides = HashSet::from([Side::Source, Side::Sink, Side::Sink]);
+    assert_eq!(sides.len(), 2);
 }
 
 fn both<T: Copy + Eq + Ord + std::hash::Hash>(from: &[T]) -> usize {

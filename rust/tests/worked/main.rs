@@ -12,5 +12,8 @@ mod replay;
 mod requests;
 mod rules;
 mod sharing;
+mod sink_flat;
+mod sink_lists;
+mod sink_words;
 mod steps;
 mod words;

@@ -44,3 +44,41 @@ pub const fn avs(peak: u8, low: u16, high: u16) -> Object {
         high: Ma10(high),
     }
 }
+
+/// The same for a sink.
+pub mod needs {
+    use arinduleu::sinks::SinkObject;
+    use arinduleu::steps::{Ma10, Ma50, Mv100, Mv50, Mw250};
+
+    pub const fn fixed(flags: u8, volts: u16, current: u16) -> SinkObject {
+        SinkObject::Fixed {
+            flags,
+            volts: Mv50(volts),
+            current: Ma10(current),
+        }
+    }
+
+    pub const fn battery(max: u16, min: u16, power: u16) -> SinkObject {
+        SinkObject::Battery {
+            max: Mv50(max),
+            min: Mv50(min),
+            power: Mw250(power),
+        }
+    }
+
+    pub const fn variable(max: u16, min: u16, current: u16) -> SinkObject {
+        SinkObject::Variable {
+            max: Mv50(max),
+            min: Mv50(min),
+            current: Ma10(current),
+        }
+    }
+
+    pub const fn pps(max: u16, min: u16, current: u16) -> SinkObject {
+        SinkObject::Pps {
+            max: Mv100(max),
+            min: Mv100(min),
+            current: Ma50(current),
+        }
+    }
+}

@@ -1,7 +1,9 @@
 //! One word: the object it says, its reserved bits, and the word that an object makes.
 
 use crate::making::{avs, battery, fixed, pps, variable};
-use arinduleu::objects::{decode, encode, is_kind, reserved_bit_set, Decoded, Encoded, Object};
+use arinduleu::objects::{
+    decode, encode, is_kind, reserved_bit_set, Decoded, Encoded, Object, Side,
+};
 
 /// Each kind twice: fields that all differ, and every bit below the kind set, so that a field that took a bit too many
 /// or too few would show.
@@ -85,10 +87,10 @@ fn bits_reserved() {
     for (name, object, first, mask, others) in RESERVED {
         for bit in 0..32 {
             let word = 1 << bit;
-            let told = reserved_bit_set(object, first, word);
+            let told = reserved_bit_set(Side::Source, object, first, word);
             assert_eq!(told, word & mask != 0, "{name}: bit {bit}");
         }
-        let told = reserved_bit_set(object, first, others);
+        let told = reserved_bit_set(Side::Source, object, first, others);
         assert!(!told, "{name}: every other bit");
     }
 }
