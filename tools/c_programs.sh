@@ -2,7 +2,7 @@
 # then run here and compared. The caller has tools/skipping.sh and tools/passing.sh.
 
 warnings=(-Wall -Wextra -Wpedantic -Werror)
-sources=(examples/two_ports.c tests/c/calls.c tests/c/layout.c)
+sources=(examples/two_ports.c tests/c/calls.c tests/c/sinks.c tests/c/layout.c)
 
 # The program of a source, in the folder of what is made.
 program() {
@@ -26,15 +26,18 @@ run_example() {
 }
 
 run_calls() {
-  local where=$1 count
+  local where=$1 name count all=0
   shift
-  limited "$@" "$made/calls" > "$made/out" || {
-    cat "$made/out" >&2
-    fail "a call does not answer as it should, $where"
-  }
-  count=$(sed -n 's/^calls: \([0-9]*\) passed, 0 failed$/\1/p' "$made/out")
-  [ -n "$count" ] || fail "calls ended without its count, $where"
-  pass "each call answers as it should ($count checks), $where"
+  for name in calls sinks; do
+    limited "$@" "$made/$name" > "$made/out" || {
+      cat "$made/out" >&2
+      fail "a call of tests/c/$name.c does not answer as it should, $where"
+    }
+    count=$(sed -n "s/^$name: \([0-9]*\) passed, 0 failed\$/\1/p" "$made/out")
+    [ -n "$count" ] || fail "$name ended without its count, $where"
+    all=$((all + count))
+  done
+  pass "each call answers as it should ($all checks), $where"
 }
 
 run_layout() {

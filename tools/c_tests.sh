@@ -104,16 +104,15 @@ header_version() {
 }
 
 # ignored_as LANGUAGE STANDARD COMPILER...: an answer that is ignored is warned of, call by call. For a compiler that does not say that
-# it is GCC or clang the mark is empty; the small headers go with it, since the machine's own ask who compiles them.
+# it is GCC or clang the mark is empty; the small headers go with it, since the machine's own ask who compiles them. Warnings are counted, not
+# errors: clang stops at the twentieth of these.
 ignored_as() {
   local language=$1 standard=$2 compiler marked told words
   shift 2
   marked=$(cat "${headers[@]}" | grep -c '^ARIN_MUST_USE ')
   for compiler in $(compilers "$@"); do
     words=("$compiler" -x "$language" "-std=$standard" "${warnings[@]}" -c tests/c/ignored.c -o "$made/object.o")
-    if "${words[@]}" -Iinclude > "$made/log" 2>&1; then
-      fail "$compiler takes an answer that is ignored, as $standard"
-    fi
+    quietly "$compiler does not take tests/c/ignored.c with its warnings, as $standard" "${words[@]}" -Wno-error -Iinclude
     told=$(grep -c 'unused-result' "$made/log" || true)
     [ "$told" = "$marked" ] || fail "$compiler warns of $told ignored answers, and $marked calls have the mark, as $standard"
     quietly "the mark does not vanish for an unknown compiler ($compiler, $standard)" \
@@ -162,7 +161,7 @@ with_cc() {
 # The example and the calls once more as C++ programs: they link only because the header says extern "C".
 with_cxx() {
   local source
-  for source in examples/two_ports.c tests/c/calls.c; do
+  for source in examples/two_ports.c tests/c/calls.c tests/c/sinks.c; do
     quietly "c++ does not build $source" \
       c++ -x c++ -std=c++17 "${warnings[@]}" -Iinclude "$source" -x none "rust/target/$cargo_library" -o "$(program "$source")"
   done
@@ -279,9 +278,12 @@ installed() {
 # The calls once more with rustc's own checks: a slice from a bad pointer and an overflow panic, and a panic never returns.
 with_checks() {
   local -x CARGO_PROFILE_RELEASE_DEBUG_ASSERTIONS=true CARGO_PROFILE_RELEASE_OVERFLOW_CHECKS=true
+  local source
   cargo_build "$made/checked"
-  quietly "cc does not build tests/c/calls.c" \
-    cc -std=c11 "${warnings[@]}" -Iinclude tests/c/calls.c "$made/checked/$cargo_library" -o "$made/calls"
+  for source in tests/c/calls.c tests/c/sinks.c; do
+    quietly "cc does not build $source" \
+      cc -std=c11 "${warnings[@]}" -Iinclude "$source" "$made/checked/$cargo_library" -o "$(program "$source")"
+  done
   run_calls "against the cargo library with rustc's checks"
 }
 

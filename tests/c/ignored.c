@@ -18,6 +18,10 @@ void ignore_every_answer(struct arin_profile profile, struct arin_words list, st
     arin_read(list);
     arin_write(objects);
     arin_answer(list, 0);
+    arin_sink_shape(list);
+    arin_sink_read(list);
+    arin_sink_write(objects);
+    arin_sink_check(90, list);
     arin_read_message(bytes, 6);
     arin_take_message(bytes, 6);
     arin_write_message(bytes, 6, message);
