@@ -74,6 +74,23 @@ const MUST_USE: &str = "#[must_use]\n";
 
 const INLINE: &str = "#[inline]\n";
 
+const INLINE_ALWAYS: &str = "#[inline(always)]\n";
+
+const INLINE_NEVER: &str = "#[inline(never)]\n";
+
+/// A function that is given the side of a list is put into its callers, which know the side: rustc then makes one of it for each side.
+const BY_SIDE: &str = "side: Side";
+
+/// The shape check of each side, whole: in the midst of its callers it makes them longer and slower.
+const WHOLE: [&str; 2] = ["lists::shape", "lists::shape_sink"];
+
+/// Put into their callers too: these take an object that the caller has just made, or make one that it takes apart.
+const OBJECTS_AND_WORDS: [&str; 3] = [
+    "objects::decode_sink",
+    "objects::encode",
+    "sinks::sink_decode",
+];
+
 const REPR_C: &str = "#[repr(C)]\n";
 
 const TRANSPARENT: &str = "#[repr(transparent)]\n";
@@ -316,8 +333,18 @@ impl<'a> Reader<'a> {
     // The signature, the contract, which goes, and the body.
     fn function(&mut self, visible: &str) -> Result<(), String> {
         let indent = self.out.len() - self.out.trim_end_matches(' ').len();
-        let behind = self.rest.split_once(')').map_or("", |(_, behind)| behind);
-        let mut marks = vec![INLINE];
+        let (given, behind) = self.rest.split_once(')').unwrap_or(("", ""));
+        let name = given.split(|c| !is_word(c)).nth(1).unwrap_or("");
+        let known = format!("{}::{name}", self.krate);
+        let known = known.as_str();
+        let inline = if WHOLE.contains(&known) {
+            INLINE_NEVER
+        } else if given.contains(BY_SIDE) || OBJECTS_AND_WORDS.contains(&known) {
+            INLINE_ALWAYS
+        } else {
+            INLINE
+        };
+        let mut marks = vec![inline];
         if visible == "pub " && behind.trim_start().starts_with("->") {
             marks.insert(0, MUST_USE);
         }

@@ -5,21 +5,16 @@ use mathlib.Core.Path.{_≡_}
 use Prim.Native.Nat.{ℕ}
 use mathlib.Core.Bool.{Bool, cond}
 use lib.Dec.{eqb}
-use Rattle.verdicts.specs.Refusals.{firstOf, verdict}
+use Rattle.verdicts.specs.Refusals.{firstOf, verdict, success}
 use Rattle.objects.specs.declared.Side.{Side}
 use Rattle.objects.specs.declared.Object.{Object}
 use Rattle.objects.specs.declared.Decoded.the-variants.{Known}
-use Rattle.objects.specs.Decode.{decodeFor}
+use Rattle.objects.specs.Decode.{decodeFor, zeroObject}
 use Rattle.lists.specs.declared.object_rules.Standing.{Standing}
 use Rattle.lists.specs.declared.shape_check.Judged.{Judged}
-use Rattle.lists.specs.declared.shape_check.Judged.the-variants.{Fine, Refused}
 use Rattle.lists.specs.ObjectRules.{rankOf, keyOf, mayFollow}
 use Rattle.lists.specs.Shape.{wordRefusals}
 use Rattle.lists.specs.Reading.{objectOf}
-
-unfoldable pub judgedOf : Side → Bool → ℕ → Object → ℕ → Judged
-judgedOf side first place before w =
-    firstOf (λ n p. Refused (verdict n p)) (wordRefusals side first place (Known before) w) (Fine (objectOf (decodeFor side w)))
 
 -- PPS, of rank 4, counts its voltage in 100 mV, the others in 50 mV
 abbrev pub in100mV : ℕ → Bool
@@ -32,6 +27,17 @@ standingOf o = record {
   volts = record { 0 = cond (in100mV (rankOf o)) 0 (keyOf o) };
   top = record { 0 = cond (in100mV (rankOf o)) (keyOf o) 0 };
 }
+
+-- a word that is refused, and one that is not, with how its object stands
+abbrev pub refusedWord : ℕ → ℕ → Judged
+refusedWord n p = record { verdict = verdict n p; standing = standingOf zeroObject }
+
+abbrev pub fineWord : Object → Judged
+fineWord o = record { verdict = success; standing = standingOf o }
+
+unfoldable pub judgedOf : Side → Bool → ℕ → Object → ℕ → Judged
+judgedOf side first place before w =
+    firstOf refusedWord (wordRefusals side first place (Known before) w) (fineWord (objectOf (decodeFor side w)))
 
 -- an answer by a standing alone is right for every object that stands so
 abbrev pub Follows : Standing → Object → Bool → Type 0

@@ -1,5 +1,5 @@
--- What each public call of this crate promises of its answer (STATEMENT, "Lists in hand" and "Shape of a list"). The contracts cite these
--- names, and so do the theorems over them.
+-- What each public call of this crate promises of its answer (STATEMENT, "Lists in hand", "Shape of a list" and "Shape of a
+-- sink list"). The contracts cite these names, and so do the theorems over them.
 -- Assumes nothing.
 use mathlib.Core.Path.{_≡_}
 use mathlib.Core.Bool.{Bool}

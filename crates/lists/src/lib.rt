@@ -21,7 +21,7 @@ pub use write_list::write;
 // Seven words and how many of them count. What lies past the count is not read.
 #[repr(C)]
 pub struct Words {
-    // The words of Source_Capabilities, in order.
+    // The words of Source_Capabilities or of a sink's list, in order.
     pub words: [u32; 7],
     // How many of them count: 1 to 7 in a list that passes, 0 on a refusal.
     pub count: u8,

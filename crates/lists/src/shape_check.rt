@@ -8,7 +8,7 @@ ghost use Rattle.steps.specs.Units.{mv50};
 ghost use Rattle.objects.specs.Decode.{decodeOf};
 ghost use Rattle.objects.specs.Asking.{ofObject};
 ghost use Rattle.lists.specs.Shape.{isFixed5V, fixedWith, hasFixed, avsDiffers, avsRows, agreementRows};
-ghost use Rattle.lists.specs.Judging.{Judges};
+ghost use Rattle.lists.specs.Judging.{refusedWord, fineWord, Judges};
 ghost use Rattle.lists.specs.Scanning.{OnlyAvs, Scans};
 ghost use Rattle.lists.specs.Promises.{MiscountsPlaces, Shapes, ShapesFor, ShapesTo};
 use crate::Shaped;
@@ -32,10 +32,10 @@ pub struct Scan {
     pub avs: u8,
 }
 
-// A word that was judged: its object, or its first refusal.
-pub enum Judged {
-    Fine(Object),
-    Refused(Verdict),
+// A word that was judged: its first refusal, or how its object stands.
+pub struct Judged {
+    pub verdict: Verdict,
+    pub standing: Standing,
 }
 
 // Whether no list has so many places. Refusal 10 is given for it.
@@ -48,6 +48,13 @@ pub fn bad_count(count: u8) -> bool
     7 < count
 }
 
+// The standing of no object, and of one that was refused.
+const NO_STANDING: Standing = Standing {
+    rank: 0,
+    volts: Mv50(0),
+    top: Mv100(0),
+};
+
 // A fixed voltage stands in bits 19..10. 5 V is 100 steps of 50 mV.
 fn is_fixed_5_v(w: u32) -> bool
     ensures { λ r. ⌜ r ≡ isFixed5V w ⌝ }
@@ -58,45 +65,51 @@ fn is_fixed_5_v(w: u32) -> bool
     (w >> 10) & 0x3FF == 100
 }
 
+fn refused(number: u8, place: u8) -> Judged
+    ensures { λ r. ⌜ r ≡ refusedWord number place ⌝ }
+{
+    Judged {
+        verdict: Verdict { number, place },
+        standing: NO_STANDING,
+    }
+}
+
+fn fine(o: Object) -> Judged
+    ensures { λ r. ⌜ r ≡ fineWord o ⌝ }
+{
+    Judged {
+        verdict: Verdict {
+            number: verdicts::SUCCESS,
+            place: 0,
+        },
+        standing: standing_of(o),
+    }
+}
+
 // One word, with how the object before it stands.
 fn judge(side: Side, first: bool, place: u8, before: Standing, w: u32) -> Judged
     ensures { λ r. ⌜ Judges side first place before w r ⌝ }
 {
     let d = objects::decode_for(side, w);
     let Decoded::Known(object) = d else {
-        return Judged::Refused(Verdict {
-            number: verdicts::KIND_NOT_ALLOWED,
-            place,
-        });
+        return refused(verdicts::KIND_NOT_ALLOWED, place);
     };
     if objects::reserved_bit_set(side, object, first, w) {
-        return Judged::Refused(Verdict {
-            number: verdicts::RESERVED_BIT,
-            place,
-        });
+        return refused(verdicts::RESERVED_BIT, place);
     }
     if out_of_bounds(object) {
-        return Judged::Refused(Verdict {
-            number: verdicts::VOLTAGE_BOUND,
-            place,
-        });
+        return refused(verdicts::VOLTAGE_BOUND, place);
     }
     if over_100_w(object) {
-        return Judged::Refused(Verdict {
-            number: verdicts::POWER_OVER_100_W,
-            place,
-        });
+        return refused(verdicts::POWER_OVER_100_W, place);
     }
     if first {
-        return Judged::Fine(object);
+        return fine(object);
     }
     if may_follow(before, object) {
-        return Judged::Fine(object);
+        return fine(object);
     }
-    Judged::Refused(Verdict {
-        number: verdicts::ORDER,
-        place,
-    })
+    refused(verdicts::ORDER, place)
 }
 
 // The place of the AVS word so far. An AVS object has the rank 3.
@@ -116,25 +129,18 @@ fn judge_words(side: Side, list: Words) -> Scan
 {
     let count = list.count;
     // The order says nothing of the first word, so before it any standing will do.
-    let mut before = Standing {
-        rank: 0,
-        volts: Mv50(0),
-        top: Mv100(0),
-    };
+    let mut before = NO_STANDING;
     let mut avs: u8 = 0;
     let mut i: u8 = 0;
     while i < count {
         let at = i as usize;
         let w = list.words[at];
         let j = judge(side, i == 0, i + 1, before, w);
-        match j {
-            Judged::Fine(object) => {
-                before = standing_of(object);
-            }
-            Judged::Refused(verdict) => {
-                return Scan { verdict, avs };
-            }
+        let verdict = j.verdict;
+        if verdict.number != verdicts::SUCCESS {
+            return Scan { verdict, avs };
         }
+        before = j.standing;
         i += 1;
         avs = avs_place(avs, before.rank, i);
     }
@@ -237,9 +243,9 @@ fn agree(side: Side, list: Words, avs: u8) -> Verdict
     }
 }
 
-// Whether these words make a list of this side. Refusals: 10; 11 (place 1); then word by word 12, 13, 15, 16, 14 (the word); and for a
-// source 17 (the AVS word).
-pub fn shape_for(side: Side, list: Words) -> Verdict
+// Whether these words make a list of this side: 10; 11 (place 1); then word by word 12, 13, 15, 16, 14 (the word); and for a source 17 (the
+// AVS word).
+fn judge_list(side: Side, list: Words) -> Verdict
     ensures { λ r. ⌜ ShapesFor side list r ⌝ }
 {
     if bad_count(list.count) {
@@ -262,11 +268,28 @@ pub fn shape_for(side: Side, list: Words) -> Verdict
     }
 }
 
-// Whether these words make an SPR source list. Refusals: those of `shape_for` a source.
+// Whether these words make an SPR source list. Refusals: 10; 11 (place 1); then word by word 12, 13, 15, 16, 14 (the word); 17 (the AVS
+// word).
 pub fn shape(list: Words) -> Verdict
     ensures { λ r. ⌜ Shapes list r ⌝ }
 {
-    shape_for(Side::Source, list)
+    judge_list(Side::Source, list)
+}
+
+fn shape_sink(list: Words) -> Verdict
+    ensures { λ r. ⌜ ShapesFor Side.Sink list r ⌝ }
+{
+    judge_list(Side::Sink, list)
+}
+
+// Whether these words make a list of this side. Refusals: those of `shape`, and for a sink there is no 17.
+pub fn shape_for(side: Side, list: Words) -> Verdict
+    ensures { λ r. ⌜ ShapesFor side list r ⌝ }
+{
+    match side {
+        Side::Source => shape(list),
+        Side::Sink => shape_sink(list),
+    }
 }
 
 // How many words of a list of this side there are to read: how reading begins, in whatever form the objects are given. Refusals: those of

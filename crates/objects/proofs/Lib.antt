@@ -4,6 +4,7 @@ pub mod Putting
 pub mod Rows
 pub mod Cases
 pub mod Saying
+pub mod BySize
 pub mod Others
 pub mod Sides
 pub mod RoundTrip

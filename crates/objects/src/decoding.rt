@@ -107,6 +107,25 @@ pub fn is_kind(w: u32, kind: u32) -> bool
     (w >> 28) & 0xF == kind
 }
 
+// The object of a word in the list of a sink. Its four kinds are the lowest numbers of bits 31..28, so they are told by how large the word is.
+fn decode_sink(w: u32) -> Decoded
+    ensures { λ r. ⌜ DecodesFor Side.Sink w r ⌝ }
+{
+    if w < 0x4000_0000 {
+        return Decoded::Known(fixed(w));
+    }
+    if w < 0x8000_0000 {
+        return Decoded::Known(battery(w));
+    }
+    if w < 0xC000_0000 {
+        return Decoded::Known(variable(w));
+    }
+    if w < 0xD000_0000 {
+        return Decoded::Known(pps(w));
+    }
+    Decoded::NotAllowed
+}
+
 // The object of a word in a list of this side. `NotAllowed` (refusal 12) where its kind is one that no such list may hold: those of
 // `decode`, and for a sink AVS too.
 pub fn decode_for(side: Side, w: u32) -> Decoded
@@ -114,11 +133,6 @@ pub fn decode_for(side: Side, w: u32) -> Decoded
 {
     match side {
         Side::Source => decode(w),
-        Side::Sink => {
-            if is_kind(w, BITS_AVS) {
-                return Decoded::NotAllowed;
-            }
-            decode(w)
-        }
+        Side::Sink => decode_sink(w),
     }
 }

@@ -62,7 +62,7 @@ sinkCheckRefusals rating l =
 unfoldable pub sinkCheckedOf : ℕ → Words → Verdict
 sinkCheckedOf rating l = verdictOf (sinkCheckRefusals rating l)
 
--- ---- as the code divides: 100 R by a voltage in 100 mV, whatever the range
+-- ---- as the code has it: one voltage in 100 mV, by which 100 R is divided, whatever the range
 
 abbrev pub dividedBy : ℕ → ℕ → ℕ
 dividedBy max min =

@@ -13,7 +13,7 @@ pub struct Verdict {
 // Nothing is refused.
 pub const SUCCESS: u8 = 0;
 
-// Of a profile: the port maximum is outside 1 to 200 half watts.
+// The port maximum of a profile, or the rating of a sink, is outside 1 to 200 half watts.
 pub const PORT_MAXIMUM: u8 = 1;
 
 // Of a profile: the present power is outside 1 half watt to the port maximum.
@@ -43,7 +43,7 @@ pub const COUNT: u8 = 10;
 // The shape of a list: the first object is not a fixed 5 V supply. The place is 1.
 pub const FIRST_NOT_FIXED_5_V: u8 = 11;
 
-// The shape of a list: a word is of no kind that an SPR list may hold. The place is the word.
+// The shape of a list: a word is of no kind that such a list may hold. The place is the word.
 pub const KIND_NOT_ALLOWED: u8 = 12;
 
 // The shape of a list: a reserved bit of a word is set. The place is the word.
@@ -56,7 +56,7 @@ pub const ORDER: u8 = 14;
 // The place is the word.
 pub const VOLTAGE_BOUND: u8 = 15;
 
-// The shape of a list: a fixed, battery or variable object offers more than 100 W. The place is the word.
+// The shape of a list: a fixed, battery or variable object offers or needs more than 100 W. The place is the word.
 pub const POWER_OVER_100_W: u8 = 16;
 
 // The shape of a list: the AVS currents differ from those of the 15 V and 20 V fixed objects. The place is the AVS word.

@@ -142,7 +142,8 @@ fn an_answer_must_be_used() {
             continue;
         }
         assert!(line.contains(") -> "), "{line}");
-        assert_eq!(lines[at - 2..at], ["#[must_use]", "#[inline]"], "{line}");
+        assert_eq!(lines[at - 2], "#[must_use]", "{line}");
+        assert!(lines[at - 1].starts_with("#[inline"), "{line}");
         marked += 1;
     }
     let table = include_str!("../../../docs/TRACE.md");

@@ -75,6 +75,13 @@ pub fn nothing_back(a: &mut [S])
 pub(crate) fn plain(a: &[S]) -> bool {
     !(a.len() == 0)
 }
+
+// By side.
+pub fn by_side(side: Side, n: u8) -> u8
+    ensures { x }
+{
+    n
+}
 "#;
 
 const STRIPPED: &str = r#"//! What the file is for,
@@ -154,6 +161,14 @@ pub fn nothing_back(a: &mut [S])
 #[inline]
 pub(crate) fn plain(a: &[S]) -> bool {
     !(a.len() == 0)
+}
+
+/// By side.
+#[must_use]
+#[inline(always)]
+pub fn by_side(side: Side, n: u8) -> u8
+{
+    n
 }
 "#;
 

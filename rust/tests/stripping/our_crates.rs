@@ -27,7 +27,13 @@ fn without_ghost_lines(name: &str, text: &str) -> Vec<String> {
 
 /// The lines that the reader gives, with plain comments again and without the attributes that it adds.
 fn without_additions(text: &str) -> Vec<String> {
-    let added = ["#[derive(Clone, Copy, ", "#[inline]", "#[must_use]"];
+    let added = [
+        "#[derive(Clone, Copy, ",
+        "#[inline]",
+        "#[inline(always)]",
+        "#[inline(never)]",
+        "#[must_use]",
+    ];
     let kept = text
         .lines()
         .filter(|line| !added.iter().any(|a| line.trim_start().starts_with(a)));
@@ -80,6 +86,27 @@ fn our_crates_are_left_as_they_are() {
     }
     println!("{lines} lines");
     assert!(lines > 2000);
+}
+
+/// The functions that the reader knows by name are there, under the marks that it has for them.
+#[test]
+fn functions_known_by_name() {
+    let library = include_str!(concat!(env!("OUT_DIR"), "/library.rs"));
+    let marked = |mark: &str| -> Vec<&str> {
+        let behind = library.split(mark).skip(1);
+        let names = behind.filter_map(|text| text.trim_start().split('(').next());
+        names.map(|name| name.trim_start_matches("pub ")).collect()
+    };
+    assert_eq!(marked("#[inline(never)]"), ["fn shape", "fn shape_sink"]);
+    let always = marked("#[inline(always)]");
+    for name in [
+        "fn decode_sink",
+        "fn encode",
+        "fn sink_decode",
+        "fn shape_for",
+    ] {
+        assert!(always.contains(&name), "{name}");
+    }
 }
 
 /// Every line of every file is in the one file that rustc reads, as often as it should be, and nothing else is but what names the crates

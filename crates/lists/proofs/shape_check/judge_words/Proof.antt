@@ -7,14 +7,18 @@ use Prim.Native.Nat.{ℕ, _+_, _-_, _≤_}
 use native.Mathlib.Omega.{arith}
 use lib.Dec.{eqb}
 use lib.ListN.{getD}
-use Rattle.verdicts.specs.Refusals.{eachPlace, verdict, success, NoneApply}
+use Rattle.verdicts.specs.declared.Verdict.{Verdict}
+use Rattle.verdicts.specs.Refusals.{eachPlace, firstOf, verdict, success, NoneApply}
 use Rattle.verdicts.proofs.First.{none-yet, none-more, all-missed, decided}
 use Rattle.objects.specs.Decode.{decodeFor}
+use Rattle.lists.specs.declared.shape_check.Judged.{Judged}
 use Rattle.lists.specs.Shape.{wordRows}
+use Rattle.lists.specs.Reading.{objectOf}
+use Rattle.lists.specs.Judging.{standingOf}
 use Rattle.lists.specs.Scanning.{OnlyAvs}
 use Rattle.objects.specs.Decode.{zeroObject}
 use Rattle.lists.proofs.Orders.{rank-in}
-use Rattle.lists.proofs.Judging.{Before, refused-word, fine-word, fine-object}
+use Rattle.lists.proofs.Judging.{Before, refused-word, fine-word, fine-object, fine-standing}
 use Rattle.lists.proofs.Scanning.{Alone, none-seen, one-more, refused-number}
 use Rattle.lists.proofs.shape_check.judge_words.Statement.{statement}
 use Rattle.lists.proofs.shape_check.judge_words.Tie as tie
@@ -52,27 +56,19 @@ add-judge c = search needs
 judge-requires : tie.Need-judge-requires Inv-loop μ-loop
 judge-requires c κs = search needs
 
-enum-known-j : tie.Need-enum-known-j Inv-loop μ-loop
-enum-known-j c = search needs
-
-enum-known-j-2 : tie.Need-enum-known-j-2 Inv-loop μ-loop
-enum-known-j-2 c = search needs
-
 returns : tie.Need-returns Inv-loop μ-loop
 returns c =
-    let l = c .before .before .before .before .before .before .before .args .t2 in
-    let side = c .before .before .before .before .before .before .before .args .side in
+    let a = c .before .before .before .before .before .before .before .args in
     let at = c .before .before .before .before .before .before .loop in
     let b = at .inv .2 in
     let h = c .before .before .before .before .before .loop-test .taken in
-    let v = c .before .j2 .given .0 .0 in
-    let r = refused-word side (l .words) (at .i) (b .object) (b .decoded) v
-    (sym (c .before .before .before .judge .ensures (b .object) (b .stands)) ∙ c .before .j2 .given .1) in
-    let e = sym (decided (wordRows side (l .words)) verdict (at .i) (l .count) v h (at .inv .1) r success) in
-    (e, λ z. absurd (refused-number side (l .words) (l .count) (at .i) v h e r z))
-
-standing-of-requires : tie.Need-standing-of-requires Inv-loop μ-loop
-standing-of-requires c κs = search needs
+    let e = c .before .before .before .judge .ensures (b .object) (b .stands) in
+    let v = c .before .before .before .judge .result .verdict in
+    let said : (x : Verdict) → firstOf verdict (wordRows (a .side) (a .t2 .words) (at .i)) x ≡ v = λ x.
+    refused-word (a .side) (a .t2 .words) (at .i) (b .object) (b .decoded) (λ z. c .if1 .taken (ap (λ (j : Judged). j .verdict .number) e ∙ z)) x
+    ∙ sym (ap (λ (j : Judged). j .verdict) e) in
+    let q = sym (decided (wordRows (a .side) (a .t2 .words)) verdict (at .i) (a .t2 .count) v h (at .inv .1) said success) in
+    (q, λ z. absurd (refused-number (a .side) (a .t2 .words) (a .t2 .count) (at .i) v h q said z))
 
 add-i : tie.Need-add-i Inv-loop μ-loop
 add-i c = search needs
@@ -85,27 +81,25 @@ loop-less c = search needs
 
 loop-again : tie.Need-loop-again Inv-loop μ-loop
 loop-again c =
-    let l = c .before .before .before .before .before .before .before .before .before .args .t2 in
-    let side = c .before .before .before .before .before .before .before .before .before .args .side in
+    let a = c .before .before .before .before .before .before .before .before .before .args in
+    let l = a .t2 in
     let at = c .before .before .before .before .before .before .before .before .loop in
     let b = at .inv .2 in
-    let j = c .before .before .before .j .given in
-    let e = sym (c .before .before .before .before .before .judge .ensures (b .object) (b .stands)) ∙ j .1 in
-    let z : at .i + 1 - 1 ≡ at .i = omega arith in
-    let clear = fine-word side (l .words) (at .i) (b .object) (b .decoded) _ e in
-    let d = fine-object side _ _ _ _ _ e in
-    let s = c .before .standing-of in
-    let r = rank-in (j .0 .0) (sym (s .ensures)) in (
+    let j = c .before .before .before .before .before .judge in
+    let e = j .ensures (b .object) (b .stands) in
+    let n = sym (ap (λ (y : Judged). y .verdict .number) e) ∙ c .before .before .if1 .left in
+    let o = objectOf (decodeFor (a .side) (getD (l .words) (at .i) 0)) in
+    let clear = fine-word (a .side) (l .words) (at .i) (b .object) (b .decoded) n in
+    let d = fine-object (a .side) (l .words) (at .i) (b .object) (b .decoded) n in
+    let stands : standingOf o ≡ j .result .standing =
+    sym (ap (λ (y : Judged). y .standing) e ∙ fine-standing (a .side) (l .words) (at .i) (b .object) (b .decoded) n) in
+    let z : at .i + 1 - 1 ≡ at .i = omega arith in (
       omega arith,
-      none-more (wordRows side (l .words)) (at .i) (at .inv .1) clear,
-      record {
-        object = j .0 .0;
-        stands = sym (s .ensures);
-        decoded = λ h. ap (λ (k : ℕ). decodeFor side (getD (l .words) k 0)) z ∙ d;
-      },
-      subst (λ (p : ℕ). Alone side (l .words) (at .i + 1) (s .result .rank) p) (sym (c .avs-place .ensures))
-          (subst (λ (n : ℕ). Alone side (l .words) (at .i + 1) n (cond (eqb n 3) (at .i + 1) (at .avs))) r
-          (one-more side (l .words) (at .i) (at .avs) (at .before) (at .inv .3) b clear (j .0 .0) d)),
+      none-more (wordRows (a .side) (l .words)) (at .i) (at .inv .1) clear,
+      record { object = o; stands = stands; decoded = λ h. ap (λ (k : ℕ). decodeFor (a .side) (getD (l .words) k 0)) z ∙ d },
+      subst (λ (p : ℕ). Alone (a .side) (l .words) (at .i + 1) (j .result .standing .rank) p) (sym (c .avs-place .ensures))
+          (subst (λ (m : ℕ). Alone (a .side) (l .words) (at .i + 1) m (cond (eqb m 3) (at .i + 1) (at .avs))) (rank-in o stands)
+          (one-more (a .side) (l .words) (at .i) (at .avs) (at .before) (at .inv .3) b clear o d)),
     )
 
 returns-2 : tie.Need-returns-2 Inv-loop μ-loop
@@ -130,9 +124,6 @@ judge-words-spec =
     element-copy-out-w
     add-judge
     judge-requires
-    enum-known-j
-    standing-of-requires
-    enum-known-j-2
     returns
     add-i
     avs-place-requires
