@@ -68,35 +68,69 @@ fn note_avs(run: &mut Run, list: &Words, shape: Verdict) {
     }
 }
 
-/// Words that were made, as writing ends: nothing but zeros past the count.
+/// How reading begins and how writing ends, for either side. What writing hands in may be refused already, and stays so.
 #[test]
-fn words_listed_for_either_side() {
-    let mut run = Run::new("words listed");
+fn lists_begun_and_finished_for_either_side() {
+    let mut run = Run::new("lists begun and finished");
     while run.going() {
-        let mut list = sinks_made::any(&mut run.random);
-        let count = usize::from(list.count).min(7);
-        list.words[count..].fill(0);
+        let list = sinks_made::any(&mut run.random);
+        let before = match run.random.one_in(4) {
+            true => Verdict {
+                number: 7,
+                place: 3,
+            },
+            false => Verdict::default(),
+        };
         for (side, verdict) in [
             (Side::Source, model::shape(&list)),
             (Side::Sink, model::sink_shape(&list)),
         ] {
-            let listing = match verdict.number {
-                0 => model::Listing { verdict, list },
+            let readable = lists::readable(side, list.library());
+            let count = if verdict.number == 0 { list.count } else { 0 };
+            run.same(
+                "readable",
+                &(side, list),
+                (readable.verdict.model(), readable.count),
+                (verdict, count),
+            );
+
+            let made = model::Listing {
+                verdict: before,
+                list,
+            };
+            let finished = match (before.number, verdict.number) {
+                (7, _) => made,
+                (_, 0) => model::Listing { verdict, list },
                 _ => model::Listing {
                     verdict,
                     ..model::Listing::default()
                 },
             };
-            let library = lists::listed(side, list.library()).model();
-            run.same("listed", &(side, list), library, listing);
-            run.reached(match (side, verdict.number) {
-                (Side::Source, 0) => "a source's",
-                (Side::Sink, 0) => "a sink's",
+            let library = lists::finished(side, made.library()).model();
+            run.same("finished", &(side, made), library, finished);
+            run.reached(match (before.number, side, verdict.number) {
+                (7, _, _) => "refused before",
+                (_, Side::Source, 0) => "a source's",
+                (_, Side::Sink, 0) => "a sink's",
                 _ => "refused",
             });
         }
     }
-    run.finish(&[], &["a source's", "a sink's", "refused"]);
+    run.finish(
+        &[],
+        &["refused before", "a source's", "a sink's", "refused"],
+    );
+}
+
+#[test]
+fn every_count() {
+    for count in 0..=u8::MAX {
+        assert_eq!(
+            lists::bad_count(count),
+            !(1..=7).contains(&count),
+            "{count}"
+        );
+    }
 }
 
 /// The objects of a list of words; a word of no kind becomes some object. Past the count lies what must not be read.
