@@ -169,13 +169,13 @@ with_cxx() {
   run_calls "against the cargo library, c++"
 }
 
-# The code in the README's section for firmware that sets up rows, and then that on messages, put into a function as they stand.
+# The code in the README's section for firmware that sets up rows, then that on messages and that on sink lists, put into a function as they stand.
 readme_snippet() {
   awk '
     /^## / { inside = $0 == "## From firmware" }
     inside && /^    / { block = block blank $0 "\n"; blank = ""; next }
     inside && /^$/ { blank = blank "\n"; next }
-    { if (block ~ /arin_set_up\(|arin_write_message\(/) printf "%s", block; block = blank = "" }
+    { if (block ~ /arin_set_up\(|arin_write_message\(|arin_sink_check\(/) printf "%s", block; block = blank = "" }
   ' README.md > "$made/snippet"
   [ -s "$made/snippet" ] || fail "the README has no snippet for firmware"
   {
@@ -191,7 +191,7 @@ snippet_as() {
   quietly "the README's snippet is not $2" \
     "$3" -x "$1" "-std=$2" "${warnings[@]}" -Iinclude "$made/snippet.c" -x none "rust/target/$cargo_library" -o "$made/pasted"
   limited "$made/pasted" > "$made/out" || fail "the README's snippet ended badly, as $2"
-  [ "$(grep -c . "$made/out")" = 2 ] || fail "the README's snippet does not print two lines"
+  [ "$(grep -c . "$made/out")" = 3 ] || fail "the README's snippet does not print three lines"
   while IFS= read -r line; do
     grep -qxF "    $line" README.md || fail "the README does not say what its snippet prints: $line"
   done < "$made/out"
