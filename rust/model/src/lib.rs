@@ -52,13 +52,13 @@ pub struct Listing {
     pub list: Words,
 }
 
-/// Powers in half watts, cable in amperes, rounding 0 down and 1 up.
+/// Powers in half watts, cable in 10 mA, rounding 0 down and 1 up.
 #[derive(Clone, Copy, Debug, PartialEq, Eq, Default)]
 #[repr(C)]
 pub struct Profile {
     pub max: u16,
     pub present: u16,
-    pub cable: u8,
+    pub cable: u16,
     pub rounding: u8,
     pub pps: u8,
     pub flags: u8,
@@ -71,12 +71,13 @@ pub struct Profiled {
     pub profile: Profile,
 }
 
+/// Powers in half watts, cable in 10 mA. "A port with cable 0 is empty; any other is attached."
 #[derive(Clone, Copy, Debug, PartialEq, Eq, Default)]
 #[repr(C)]
 pub struct Row {
     pub max: u16,
     pub pps: u8,
-    pub cable: u8,
+    pub cable: u16,
     pub present: u16,
     pub held: u16,
 }

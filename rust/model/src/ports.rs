@@ -2,7 +2,7 @@
 
 use crate::answers::*;
 use crate::requests::{ask, power};
-use crate::rules::make;
+use crate::rules::{is_cable, make};
 use crate::{Listing, Profile, RemainingPower, Row, Verdict, Words};
 
 /// The power every port holds at least, in half watts.
@@ -28,13 +28,13 @@ fn try_set_up(rows: &mut [Row], capacity: u16) -> Result<(), Verdict> {
     Ok(())
 }
 
-pub fn attach(rows: &mut [Row], capacity: u16, port: u8, cable: u8) -> Listing {
+pub fn attach(rows: &mut [Row], capacity: u16, port: u8, cable: u16) -> Listing {
     listing(try_attach(rows, capacity, port, cable))
 }
 
-fn try_attach(rows: &mut [Row], capacity: u16, port: u8, cable: u8) -> Result<Words, Verdict> {
+fn try_attach(rows: &mut [Row], capacity: u16, port: u8, cable: u16) -> Result<Words, Verdict> {
     let (row, room) = find(rows, capacity, port)?;
-    if cable != 3 && cable != 5 {
+    if !is_cable(cable) {
         return refuse(CABLE, 0);
     }
     if row.cable != 0 {
@@ -140,7 +140,9 @@ fn sound(row: &Row) -> bool {
     }
     match row.cable {
         0 => row.present == 0 && row.held == LEAST,
-        3 | 5 => LEAST <= row.held && row.held <= row.present && row.present <= row.max,
+        cable if is_cable(cable) => {
+            LEAST <= row.held && row.held <= row.present && row.present <= row.max
+        }
         _ => false,
     }
 }

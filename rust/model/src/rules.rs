@@ -13,25 +13,26 @@ const FIXED: [(u32, u16); 4] = [(5, 0), (9, 30), (15, 54), (20, 90)];
 const AVS_ABOVE: u16 = 54;
 const AVS_SECOND_ABOVE: u16 = 90;
 
-/// A PPS object, its M between the two bounds; `max` in 100 mV.
+/// A PPS object, its M between the two bounds; `max` in 100 mV, `limit` in 50 mA.
 struct Prog {
     volts: u32,
     above: u16,
     below: u16,
     max: u16,
+    limit: u32,
 }
 
 const PROGS: [Prog; 3] = [
-    Prog { volts: 9, above: 30, below: 90, max: 110 },
-    Prog { volts: 15, above: 54, below: 120, max: 160 },
-    Prog { volts: 20, above: 90, below: u16::MAX, max: 210 },
+    Prog { volts: 9, above: 30, below: 90, max: 110, limit: A3_50MA },
+    Prog { volts: 15, above: 54, below: 120, max: 160, limit: A3_50MA },
+    Prog { volts: 20, above: 90, below: u16::MAX, max: 210, limit: u32::MAX },
 ];
 
 /// 5 V in 100 mV.
 const PROG_MIN: u16 = 50;
 
 /// 3 A in 10 mA and in 50 mA.
-const A3_10MA: u32 = 300;
+const A3_10MA: u16 = 300;
 const A3_50MA: u32 = 60;
 
 pub fn default_profile(max: u16) -> Profiled {
@@ -43,7 +44,7 @@ pub fn default_profile(max: u16) -> Profiled {
     }
     Profiled {
         verdict: Verdict::default(),
-        profile: Profile { max, present: max, cable: 3, ..Profile::default() },
+        profile: Profile { max, present: max, cable: A3_10MA, ..Profile::default() },
     }
 }
 
@@ -67,7 +68,7 @@ fn check_profile(profile: &Profile) -> Result<(), Verdict> {
     if !(1..=profile.max).contains(&profile.present) {
         return refuse(PRESENT_POWER, 0);
     }
-    if profile.cable != 3 && profile.cable != 5 {
+    if !is_cable(profile.cable) {
         return refuse(CABLE, 0);
     }
     if profile.rounding > 1 || profile.pps > 1 {
@@ -77,6 +78,11 @@ fn check_profile(profile: &Profile) -> Result<(), Verdict> {
         return refuse(FLAGS, 0);
     }
     Ok(())
+}
+
+/// "100 to 500", in 10 mA.
+pub fn is_cable(cable: u16) -> bool {
+    (100..=500).contains(&cable)
 }
 
 /// The list of a profile that the builder accepts.
@@ -92,7 +98,7 @@ pub fn make(profile: &Profile) -> Words {
             0 => round_down(numerator, volts),
             _ => round_up(numerator, volts),
         };
-        let current = quotient.min(most(volts, A3_10MA, profile.cable));
+        let current = quotient.min(most(volts, profile.cable));
         match volts {
             15 => low = current,
             20 => high = current,
@@ -118,18 +124,15 @@ fn push(list: &mut Words, word: u32) {
     list.count += 1;
 }
 
-/// The cable's current, in the step in which 3 A is `a3`.
-fn cable_current(a3: u32, cable: u8) -> u32 {
-    a3 / 3 * u32::from(cable)
+/// Of a built fixed current: "at most 3 A at 5, 9 and 15 V, and at every voltage at most the cable".
+fn most(volts: u32, cable: u16) -> u32 {
+    u32::from(if volts == 20 { cable } else { cable.min(A3_10MA) })
 }
 
-/// The most a built object offers: the cable's current at 20 V, else 3 A.
-fn most(volts: u32, a3: u32, cable: u8) -> u32 {
-    if volts == 20 {
-        cable_current(a3, cable)
-    } else {
-        a3
-    }
+/// "the greatest figure of 50 mA that is not above the cable". Divided in 16 bits, so that one
+/// multiplication does it where the machine cannot divide.
+fn cable_in_whole_50ma(cable: u16) -> u32 {
+    u32::from(cable / 5)
 }
 
 impl Prog {
@@ -137,20 +140,21 @@ impl Prog {
         self.above < max && max < self.below
     }
 
-    /// "current before its limit, in 50 mA", rounded down.
-    fn quotient(&self, max: u16) -> u32 {
-        round_down(10 * u32::from(max), self.volts)
+    /// "current before its limit, in 50 mA", rounded down and "at most the cable in whole 50 mA".
+    fn before_limit(&self, profile: &Profile) -> u32 {
+        let quotient = round_down(10 * u32::from(profile.max), self.volts);
+        quotient.min(cable_in_whole_50ma(profile.cable))
     }
 
     fn built(&self, profile: &Profile) -> u32 {
-        self.quotient(profile.max).min(most(self.volts, A3_50MA, profile.cable))
+        self.before_limit(profile).min(self.limit)
     }
 
-    /// From the built figure to the smaller of cable and quotient. The two differ only where the
-    /// quotient is over 3 A: 9 V Prog with M > 54 and 15 V Prog with M > 90.
+    /// "from the built figure up to the smaller of the cable in whole 50 mA and" the quotient. The
+    /// ends differ only where cable and quotient are both over the limit: the quotient is for 9 V
+    /// Prog with M > 54 and for 15 V Prog with M > 90.
     fn allows(&self, profile: &Profile, current: u32) -> bool {
-        let upper = self.quotient(profile.max).min(cable_current(A3_50MA, profile.cable));
-        (self.built(profile)..=upper).contains(&current)
+        (self.built(profile)..=self.before_limit(profile)).contains(&current)
     }
 }
 
@@ -221,14 +225,12 @@ fn first_not_allowed(profile: &Profile, list: &Words) -> Option<u8> {
 
 fn fixed_allowed(profile: &Profile, volts: u32, current: u32) -> bool {
     let present = u32::from(profile.present);
-    let cable = cable_current(A3_10MA, profile.cable);
-    let down = round_down(50 * present, volts);
-    let up = round_up(50 * present, volts);
-    if volts == 20 {
-        return current == down.min(cable) || current == up.min(cable);
-    }
-    if present > 6 * volts {
-        return (A3_10MA..=up.min(cable)).contains(&current);
+    let cable = u32::from(profile.cable);
+    let down = round_down(50 * present, volts).min(cable);
+    let up = round_up(50 * present, volts).min(cable);
+    if volts != 20 && present > 6 * volts {
+        // "from the smaller of 3 A and the cable"
+        return (most(volts, profile.cable)..=up).contains(&current);
     }
     current == down || current == up
 }

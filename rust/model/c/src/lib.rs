@@ -118,7 +118,7 @@ pub unsafe extern "C" fn model_attach(
     count: usize,
     capacity: u16,
     port: u8,
-    cable: u8,
+    cable: u16,
 ) -> Listing {
     model::attach(unsafe { lent(rows, count) }, capacity, port, cable)
 }

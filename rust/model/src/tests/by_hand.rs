@@ -6,13 +6,13 @@ use super::*;
 #[test]
 fn listing_36_watts() {
     let list = [0x0001912C, 0x0002D12C, 0x0004B0F0, 0xE003C000, 0xC8DC323C, 0xC9403230];
-    assert_eq!(built(profile(72, 72, 3, 0, 1)), list_of(&list));
+    assert_eq!(built(profile(72, 72, 300, 0, 1)), list_of(&list));
 }
 
 #[test]
 fn built_by_hand() {
     let list = [fixed(5, 300), fixed(9, 300), fixed(15, 267), fixed(20, 200)];
-    let up = built(profile(160, 80, 5, 1, 0));
+    let up = built(profile(160, 80, 500, 1, 0));
     assert_eq!(up.words[..4], list);
     assert_eq!((up.words[4], up.count), (0xE0042CC8, 5));
     let list = [fixed(5, 300), fixed(9, 300), fixed(15, 266), avs(266, 0)];
@@ -26,24 +26,24 @@ fn built_by_hand() {
     assert_eq!(by_max(55).words[2], fixed(15, 183));
     assert_eq!(by_max(90).count, 4);
     assert_eq!(by_max(91).words[3], fixed(20, 227));
-    let flagged = Profile { flags: 63, ..profile(30, 30, 3, 0, 0) };
+    let flagged = Profile { flags: 63, ..profile(30, 30, 300, 0, 0) };
     assert_eq!(built(flagged).words[0], 0x3F01_912C);
 }
 
-/// The notice's table 10-4: maximum, cable and present power in half watts, rounding, currents
+/// The notice's table 10-4: maximum, cable in 10 mA, present power in half watts, rounding, currents
 /// (0: not there).
 #[test]
 fn table_10_4() {
     let rows = [
-        (160, 5, 130, 0, [300, 300, 300, 325]),
-        (160, 5, 80, 1, [300, 300, 267, 200]),
-        (160, 3, 80, 1, [300, 300, 267, 200]),
-        (80, 5, 80, 1, [300, 300, 267, 0]),
-        (80, 3, 80, 1, [300, 300, 267, 0]),
-        (160, 5, 40, 0, [300, 222, 133, 100]),
-        (160, 3, 40, 0, [300, 222, 133, 100]),
-        (80, 5, 40, 0, [300, 222, 133, 0]),
-        (80, 3, 40, 0, [300, 222, 133, 0]),
+        (160, 500, 130, 0, [300, 300, 300, 325]),
+        (160, 500, 80, 1, [300, 300, 267, 200]),
+        (160, 300, 80, 1, [300, 300, 267, 200]),
+        (80, 500, 80, 1, [300, 300, 267, 0]),
+        (80, 300, 80, 1, [300, 300, 267, 0]),
+        (160, 500, 40, 0, [300, 222, 133, 100]),
+        (160, 300, 40, 0, [300, 222, 133, 100]),
+        (80, 500, 40, 0, [300, 222, 133, 0]),
+        (80, 300, 40, 0, [300, 222, 133, 0]),
     ];
     for (max, cable, present, rounding, [a, b, c, d]) in rows {
         let all = [fixed(5, a), fixed(9, b), fixed(15, c), fixed(20, d), avs(c, d)];
@@ -71,11 +71,11 @@ fn two_ports_share() {
     let twentieth = ask_figures(4, 325, 325);
     let mut rows = [Row { max: 130, ..Row::default() }; 2];
     assert_eq!(set_up(&mut rows, 200), said(0, 0));
-    let first = attach(&mut rows, 200, 1, 5);
+    let first = attach(&mut rows, 200, 1, 500);
     assert_eq!((first.verdict, rows[0].present), (said(0, 0), 130));
     assert_eq!(request(&mut rows, 200, 1, twentieth), said(0, 0));
     assert_eq!(rows[0].held, 130);
-    let second = attach(&mut rows, 200, 2, 5).list;
+    let second = attach(&mut rows, 200, 2, 500).list;
     let list = [fixed(5, 300), fixed(9, 300), fixed(15, 233), fixed(20, 175)];
     assert_eq!(second.words[..4], list);
     assert_eq!((rows[1].present, rows[1].held), (70, 15));
@@ -98,7 +98,7 @@ fn two_ports_share() {
 fn every_built_list_passes() {
     for max in 1..=200 {
         for present in 1..=max {
-            for (cable, rounding) in [(3, 0), (3, 1), (5, 0), (5, 1)] {
+            for (cable, rounding) in [(300, 0), (300, 1), (500, 0), (500, 1)] {
                 let wanted = u8::from(present == max);
                 let profile = profile(max, present, cable, rounding, wanted);
                 assert_eq!(check(&profile, &built(profile)), said(0, 0));
@@ -171,7 +171,7 @@ fn reading_and_writing() {
 fn held_power_of_pps_and_avs() {
     let mut rows = [Row { max: 72, pps: 1, ..Row::default() }];
     assert_eq!(set_up(&mut rows, 72), said(0, 0));
-    assert_eq!(attach(&mut rows, 72, 1, 3).list.count, 6);
+    assert_eq!(attach(&mut rows, 72, 1, 300).list.count, 6);
     // 11 V at 3 A is 33 W, 16 V at 2.4 A is 38.4 W of 36, 15 V at 2.4 A is 36 W, 9 V at 0.05 A
     // is under 7.5 W.
     for (word, held) in [

@@ -8,7 +8,7 @@ mod sinks;
 
 use crate::*;
 
-fn profile(max: u16, present: u16, cable: u8, rounding: u8, pps: u8) -> Profile {
+fn profile(max: u16, present: u16, cable: u16, rounding: u8, pps: u8) -> Profile {
     Profile { max, present, cable, rounding, pps, flags: 0 }
 }
 
@@ -63,7 +63,7 @@ fn ask_volts(position: u32, volts: u32, current: u32) -> u32 {
 
 /// The list L of the statement.
 fn l() -> Words {
-    built(profile(160, 130, 5, 0, 0))
+    built(profile(160, 130, 500, 0, 0))
 }
 
 /// The same numbers on every machine.

@@ -11,14 +11,14 @@ fn profile_refusals() {
         }
     };
     refused(1, profile(0, 0, 0, 2, 0));
-    refused(1, profile(201, 1, 3, 0, 0));
+    refused(1, profile(201, 1, 300, 0, 0));
     refused(2, profile(30, 31, 0, 0, 0));
-    refused(2, profile(30, 0, 3, 0, 0));
-    refused(3, profile(30, 30, 4, 2, 0));
-    refused(4, profile(30, 30, 3, 2, 0));
-    refused(4, profile(30, 30, 3, 0, 2));
-    refused(6, profile(30, 29, 3, 0, 1));
-    let flags = Profile { flags: 64, ..profile(30, 29, 3, 0, 1) };
+    refused(2, profile(30, 0, 300, 0, 0));
+    refused(3, profile(30, 30, 99, 2, 0));
+    refused(4, profile(30, 30, 300, 2, 0));
+    refused(4, profile(30, 30, 300, 0, 2));
+    refused(6, profile(30, 29, 300, 0, 1));
+    let flags = Profile { flags: 64, ..profile(30, 29, 300, 0, 1) };
     refused(5, flags);
     assert_eq!(default_profile(201).verdict, said(1, 0));
     assert_eq!(default_profile(0).profile, Profile::default());
@@ -110,34 +110,34 @@ fn rule_refusals() {
     let checked = |max, present, cable, words: &[u32]| {
         check(&profile(max, present, cable, 0, 0), &list_of(words))
     };
-    assert_eq!(checked(30, 30, 3, &[five, nine]), said(18, 0));
-    assert_eq!(checked(31, 31, 3, &[five]), said(18, 0));
-    assert_eq!(checked(30, 30, 3, &[five, pps(110, 50, 60)]), said(18, 0));
-    assert_eq!(checked(30, 30, 3, &[five, battery(400, 100, 1)]), said(18, 0));
+    assert_eq!(checked(30, 30, 300, &[five, nine]), said(18, 0));
+    assert_eq!(checked(31, 31, 300, &[five]), said(18, 0));
+    assert_eq!(checked(30, 30, 300, &[five, pps(110, 50, 60)]), said(18, 0));
+    assert_eq!(checked(30, 30, 300, &[five, battery(400, 100, 1)]), said(18, 0));
     let second_zero = [five, nine, fixed(15, 300), fixed(20, 227), avs(300, 0)];
-    assert_eq!(checked(91, 91, 3, &second_zero), said(18, 0));
+    assert_eq!(checked(91, 91, 300, &second_zero), said(18, 0));
 
     let three = [five, nine, fixed(15, 240), avs(240, 0)];
     let with = |progs: [u32; 2]| [three[0], three[1], three[2], three[3], progs[0], progs[1]];
     let both = |nine, fifteen| with([pps(110, 50, nine), pps(160, 50, fifteen)]);
-    assert_eq!(checked(72, 72, 3, &three), said(0, 0));
-    assert_eq!(checked(72, 72, 3, &both(60, 48)), said(0, 0));
-    assert_eq!(checked(72, 72, 5, &both(80, 48)), said(0, 0));
-    assert_eq!(checked(72, 72, 5, &both(81, 48)), said(19, 5));
-    assert_eq!(checked(72, 72, 3, &both(61, 48)), said(19, 5));
-    assert_eq!(checked(72, 72, 5, &both(60, 47)), said(19, 6));
-    assert_eq!(checked(72, 71, 5, &both(60, 48)), said(18, 0));
-    assert_eq!(checked(72, 72, 5, &both(81, 48)[..5]), said(18, 0));
+    assert_eq!(checked(72, 72, 300, &three), said(0, 0));
+    assert_eq!(checked(72, 72, 300, &both(60, 48)), said(0, 0));
+    assert_eq!(checked(72, 72, 500, &both(80, 48)), said(0, 0));
+    assert_eq!(checked(72, 72, 500, &both(81, 48)), said(19, 5));
+    assert_eq!(checked(72, 72, 300, &both(61, 48)), said(19, 5));
+    assert_eq!(checked(72, 72, 500, &both(60, 47)), said(19, 6));
+    assert_eq!(checked(72, 71, 500, &both(60, 48)), said(18, 0));
+    assert_eq!(checked(72, 72, 500, &both(81, 48)[..5]), said(18, 0));
 
-    assert_eq!(checked(30, 30, 5, &[fixed(5, 301)]), said(19, 1));
-    assert_eq!(checked(31, 31, 5, &[fixed(5, 310), fixed(9, 173)]), said(0, 0));
-    assert_eq!(checked(31, 31, 5, &[fixed(5, 311), fixed(9, 171)]), said(19, 1));
-    assert_eq!(checked(31, 31, 3, &[fixed(5, 301), fixed(9, 172)]), said(19, 1));
-    let mut list = built(profile(200, 200, 3, 0, 1));
+    assert_eq!(checked(30, 30, 500, &[fixed(5, 301)]), said(19, 1));
+    assert_eq!(checked(31, 31, 500, &[fixed(5, 310), fixed(9, 173)]), said(0, 0));
+    assert_eq!(checked(31, 31, 500, &[fixed(5, 311), fixed(9, 171)]), said(19, 1));
+    assert_eq!(checked(31, 31, 300, &[fixed(5, 301), fixed(9, 172)]), said(19, 1));
+    let mut list = built(profile(200, 200, 300, 0, 1));
     assert_eq!(list.words[5], pps(210, 50, 60));
     list.words[0] |= 0x7F << 23 | 3 << 20;
     list.words[5] &= !(1 << 27);
-    assert_eq!(check(&profile(200, 200, 3, 1, 0), &list), said(0, 0));
+    assert_eq!(check(&profile(200, 200, 300, 1, 0), &list), said(0, 0));
 }
 
 #[test]
@@ -175,19 +175,19 @@ fn sharing_refusals() {
     assert_eq!(remaining(&[row; 9], 200).verdict, said(30, 0));
     let mut rows = [row; 2];
     assert_eq!(set_up(&mut rows, 29), said(32, 0));
-    assert_eq!(attach(&mut rows, 1601, 1, 3).verdict, said(32, 0));
+    assert_eq!(attach(&mut rows, 1601, 1, 300).verdict, said(32, 0));
     rows[1].max = 14;
     assert_eq!(set_up(&mut rows, 200), said(31, 2));
     rows[0].pps = 2;
     assert_eq!(set_up(&mut rows, 200), said(4, 1));
-    assert_eq!(attach(&mut rows, 200, 3, 4).verdict, said(37, 1));
+    assert_eq!(attach(&mut rows, 200, 3, 99).verdict, said(37, 1));
 
     let mut rows = [row; 2];
-    assert_eq!(attach(&mut rows, 200, 0, 4).verdict, said(33, 0));
+    assert_eq!(attach(&mut rows, 200, 0, 99).verdict, said(33, 0));
     assert_eq!(detach(&mut rows, 200, 3), said(33, 0));
-    assert_eq!(attach(&mut rows, 200, 1, 4).verdict, said(3, 0));
-    assert_eq!(attach(&mut rows, 200, 1, 3).verdict, said(0, 0));
-    assert_eq!(attach(&mut rows, 200, 1, 3).verdict, said(34, 1));
+    assert_eq!(attach(&mut rows, 200, 1, 99).verdict, said(3, 0));
+    assert_eq!(attach(&mut rows, 200, 1, 300).verdict, said(0, 0));
+    assert_eq!(attach(&mut rows, 200, 1, 300).verdict, said(34, 1));
     assert_eq!(advertise(&mut rows, 200, 2).verdict, said(35, 2));
     assert_eq!(request(&mut rows, 200, 2, 0), said(35, 2));
     assert_eq!(detach(&mut rows, 200, 2), said(35, 2));

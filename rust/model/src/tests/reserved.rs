@@ -184,8 +184,8 @@ fn the_same_answer() {
 fn the_same_rows() {
     let mut rows = [Row { max: 72, pps: 1, ..Row::default() }; 2];
     assert_eq!(set_up(&mut rows, 100), said(0, 0));
-    assert_eq!(attach(&mut rows, 100, 1, 3).list.count, 6);
-    assert_eq!(attach(&mut rows, 100, 2, 3).list.count, 6);
+    assert_eq!(attach(&mut rows, 100, 1, 300).list.count, 6);
+    assert_eq!(attach(&mut rows, 100, 2, 300).list.count, 6);
     let alone = rows;
     assert_eq!(request(&mut rows, 100, 2, ask_volts(4, 600, 48)), said(0, 0));
     assert_eq!(rows[1].held, 72);

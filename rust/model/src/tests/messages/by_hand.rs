@@ -20,7 +20,7 @@ fn messages_by_hand() {
         message_type: 1,
     };
     both_ways(&capabilities, Message { header, words });
-    assert_eq!(words, built(profile(72, 72, 3, 0, 1)).words);
+    assert_eq!(words, built(profile(72, 72, 300, 0, 1)).words);
 
     let request = [0x82, 0x12, 0x45, 0x15, 0x05, 0x40];
     let header = Header {
@@ -342,7 +342,7 @@ fn built_lists_both_ways() {
     let mut seeded = Seeded(2);
     for max in 1..=200 {
         for (present, pps) in [(max, 0), (max, 1), (max - max / 2, 0), (1, 0)] {
-            let list = built(Profile { flags: 63, ..profile(max, present, 5, 0, pps) });
+            let list = built(Profile { flags: 63, ..profile(max, present, 500, 0, pps) });
             let header = Header { count: list.count, message_type: 1, ..seeded.header() };
             let message = Message { header, words: list.words };
             let (written, buffer) = wrote(ROOM, &message);
