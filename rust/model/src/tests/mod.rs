@@ -1,6 +1,7 @@
 //! What the tests make their inputs with.
 
 mod by_hand;
+mod cables;
 mod messages;
 mod refusals;
 mod reserved;
