@@ -4,6 +4,8 @@
 
 mod by_hand;
 mod every_cable;
+mod ports;
+mod ranges;
 
 use super::*;
 
