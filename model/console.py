@@ -114,7 +114,8 @@ class Fields:
         return self.number(MOST_BYTES)
 
     def profile(self):
-        return Profile(self.short(), self.short(), self.byte(), self.byte(), self.byte(), self.byte())
+        """M P C R W F"""
+        return Profile(self.short(), self.short(), self.short(), self.byte(), self.byte(), self.byte())
 
     def one_object(self, forms):
         kind, largest = forms.get(self.take(), (None, None))
@@ -136,7 +137,7 @@ class Fields:
 
     def row(self):
         """M W C P HELD"""
-        return Row(self.short(), self.byte(), self.byte(), self.short(), self.short())
+        return Row(self.short(), self.byte(), self.short(), self.short(), self.short())
 
 
 # ------------------------------------------------------------------ answers
@@ -210,7 +211,7 @@ STATELESS_CALLS = {
 # the same, for calls over the rows; the first field is the capacity
 SHARING_CALLS = {
     "setup": ((), charger.set_up, said_nothing_more),
-    "attach": ((Fields.byte, Fields.byte), charger.attach, said_words),
+    "attach": ((Fields.byte, Fields.short), charger.attach, said_words),
     "advertise": ((Fields.byte,), charger.advertise, said_words),
     "request": ((Fields.byte, Fields.word), charger.request, said_nothing_more),
     "detach": ((Fields.byte,), charger.detach, said_nothing_more),

@@ -26,8 +26,8 @@ from charger.shapes import (
     differs_from_its_fixed_objects, shaped, written, shape, read, write,
 )
 from charger.rules import (
-    Profile, DOWN, UP, RAILS, PROG_MAX, PROG_MIN, THREE_AMPERES_IN_10_MA, THREE_AMPERES_IN_50_MA, cable_in_10_ma,
-    cable_in_50_ma, fixed_voltages, has_avs, has_second_avs_current, prog_voltages, fixed_quotient,
+    Profile, DOWN, UP, RAILS, PROG_MAX, PROG_MIN, THREE_AMPERES_IN_10_MA, THREE_AMPERES_IN_50_MA, is_cable,
+    cable_in_whole_50_ma, fixed_voltages, has_avs, has_second_avs_current, prog_voltages, fixed_quotient,
     prog_quotient_down, built_current, built_prog_current, built_objects, refuse_bad_profile, default_profile,
     build,
 )
@@ -52,4 +52,4 @@ from charger.ports import (
     refuse_unsound, refuse_bad_port, refuse_empty, advertised, request_power, set_up, attach, advertise, request,
     detach, remaining,
 )
-from charger.listing_program import RECORD_BYTES, listing
+from charger.listing_program import RECORD_BYTES, STEPS_IN_100_MA, listing

@@ -4,6 +4,8 @@ from charger.lists import held_in
 from charger.rules import Profile, build
 
 RECORD_BYTES = 8
+# "The cable byte counts 100 mA"; the cable of a profile is in 10 mA.
+STEPS_IN_100_MA = 10
 
 
 def listing(data):
@@ -16,6 +18,7 @@ def listing(data):
             return
         m = record[0] | record[1] << 8
         p = record[2] | record[3] << 8
-        built = build(Profile(m, p, *record[4:]))
+        cable = record[4] * STEPS_IN_100_MA
+        built = build(Profile(m, p, cable, *record[5:]))
         words = ["%08X" % word for word in held_in(built.value)]
         yield " ".join([str(built.number), str(built.value.count)] + words)

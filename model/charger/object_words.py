@@ -74,7 +74,10 @@ def kind_of(word, side=SOURCE):
 
 def kind_of_object(obj, side):
     """None for one of no kind."""
-    return {form: kind for kind, form in side.forms.items()}.get(type(obj))
+    for kind, form in side.forms.items():
+        if form is type(obj):
+            return kind
+    return None
 
 
 def decode(word, side=SOURCE):

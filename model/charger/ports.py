@@ -7,7 +7,7 @@ from charger.measure import MICROWATTS_IN_HALF_WATT, rounded_up
 from charger.object_words import Fixed, Pps
 from charger.refusals import public_call, refuse_if
 from charger.requests import granted, operating_figure, requested_current, requested_voltage
-from charger.rules import DOWN, Profile, build
+from charger.rules import DOWN, Profile, build, is_cable
 from charger.shapes import shaped
 
 # "A caller keeps a row for each port": the fields of its table, in their order.
@@ -23,6 +23,7 @@ def emptied(row):
 
 
 def is_attached(row):
+    """A port with cable 0 is empty; any other is attached."""
     return row.cable != 0
 
 
@@ -48,7 +49,7 @@ def is_sound(row):
     if not 15 <= row.m <= 200 or row.pps > 1:
         return False
     if is_attached(row):
-        return row.cable in (3, 5) and LEAST_HELD <= row.held <= row.p <= row.m
+        return is_cable(row.cable) and LEAST_HELD <= row.held <= row.p <= row.m
     return row == emptied(row)
 
 
@@ -116,7 +117,7 @@ def attach(capacity, rows, port, cable):
     """37, 33, 3, 34."""
     refuse_unsound(capacity, rows)
     refuse_bad_port(rows, port)
-    refuse_if(cable not in (3, 5), 3)
+    refuse_if(not is_cable(cable), 3)
     refuse_if(is_attached(rows[port - 1]), 34, port)
     return advertised(capacity, rows, port, cable)
 

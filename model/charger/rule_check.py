@@ -4,7 +4,7 @@ from charger.measure import rounded_down, rounded_up
 from charger.object_words import Avs, Battery, Fixed, Pps, Variable
 from charger.refusals import public_call, refuse_if
 from charger.rules import (
-    PROG_MAX, PROG_MIN, THREE_AMPERES_IN_10_MA, built_prog_current, cable_in_10_ma, cable_in_50_ma, fixed_quotient,
+    PROG_MAX, PROG_MIN, THREE_AMPERES_IN_10_MA, built_prog_current, cable_in_whole_50_ma, fixed_quotient,
     fixed_voltages, has_avs, has_second_avs_current, prog_quotient_down, prog_voltages, refuse_bad_profile,
 )
 from charger.shapes import shaped
@@ -30,23 +30,26 @@ def is_wrong_set(profile, objects):
 
 
 def is_fixed_current_allowed(profile, volts, current):
-    """The three rows for fixed objects of what is allowed."""
+    """The three rows for fixed objects of what is allowed. A figure that is cut
+    to the cable is the smaller of the two. At 5, 9 and 15 V, where P is above
+    six times the volts: from the smaller of 3 A and the cable up to the smaller
+    of the cable and the quotient rounded up. Otherwise, and at 20 V: the
+    quotient rounded down, or rounded up, each cut to the cable."""
     down = fixed_quotient(profile, volts, rounded_down)
     up = fixed_quotient(profile, volts, rounded_up)
-    cable = cable_in_10_ma(profile)
-    if volts == 20:
-        return current in (min(down, cable), min(up, cable))
-    if profile.p > 6 * volts:
-        return THREE_AMPERES_IN_10_MA <= current <= min(cable, up)
-    return current in (down, up)
+    cable = profile.cable
+    if volts in (5, 9, 15) and profile.p > 6 * volts:
+        return min(THREE_AMPERES_IN_10_MA, cable) <= current <= min(cable, up)
+    return current in (min(down, cable), min(up, cable))
 
 
 def is_prog_current_allowed(profile, volts, current):
     """The figure that is built, and the two rows in addition: from the built
-    figure up to the smaller of the cable and the figure before its limit."""
+    figure up to the smaller of the cable in whole 50 mA and the figure before
+    its limit."""
     least = most = built_prog_current(profile, volts)
     if (volts == 9 and 54 < profile.m < 90) or (volts == 15 and 90 < profile.m < 120):
-        most = min(cable_in_50_ma(profile), prog_quotient_down(profile.m, volts))
+        most = min(cable_in_whole_50_ma(profile), prog_quotient_down(profile.m, volts))
     return least <= current <= most
 
 

@@ -19,16 +19,22 @@ RAILS = ((5, 0), (9, 30), (15, 54), (20, 90))
 PROG_MAX = {9: 110, 15: 160, 20: 210}
 PROG_MIN = 50
 
+# What is said of 3 A is said in the step of the object: 10 mA for fixed, 50 mA
+# for programmable supplies. The cable is in 10 mA.
 THREE_AMPERES_IN_10_MA = 300
 THREE_AMPERES_IN_50_MA = 60
 
 
-def cable_in_10_ma(profile):
-    return profile.cable * 100
+def is_cable(cable):
+    """The range of C: 100 to 500, "what the cable carries, in 10 mA"."""
+    return 100 <= cable <= 500
 
 
-def cable_in_50_ma(profile):
-    return profile.cable * 20
+def cable_in_whole_50_ma(profile):
+    """The greatest figure of 50 mA that is not above the cable: C / 5 rounded
+    down. "It is a cut and no conversion from one step to the other: nothing is
+    refused"."""
+    return rounded_down(profile.cable, 5)
 
 
 def fixed_voltages(m):
@@ -65,15 +71,21 @@ def prog_quotient_down(m, volts):
 
 def built_current(profile, volts):
     """The quotient rounded as R says, but at most 3 A at 5, 9 and 15 V, and at
-    most the cable at 20 V."""
-    quotient = fixed_quotient(profile, volts, rounded_up if profile.rounding == UP else rounded_down)
-    return min(quotient, cable_in_10_ma(profile) if volts == 20 else THREE_AMPERES_IN_10_MA)
+    every voltage at most the cable."""
+    current = fixed_quotient(profile, volts, rounded_up if profile.rounding == UP else rounded_down)
+    if volts in (5, 9, 15):
+        current = min(current, THREE_AMPERES_IN_10_MA)
+    return min(current, profile.cable)
 
 
 def built_prog_current(profile, volts):
-    """The figure of the table, rounded down, and at most its limit."""
-    limit = cable_in_50_ma(profile) if volts == 20 else THREE_AMPERES_IN_50_MA
-    return min(prog_quotient_down(profile.m, volts), limit)
+    """The figure of the table, rounded down whatever R says, at most its limit,
+    and at most the cable in whole 50 mA. The limit is 3 A, and none for 20 V
+    Prog."""
+    current = prog_quotient_down(profile.m, volts)
+    if volts in (9, 15):
+        current = min(current, THREE_AMPERES_IN_50_MA)
+    return min(current, cable_in_whole_50_ma(profile))
 
 
 def built_objects(profile):
@@ -95,7 +107,7 @@ def refuse_bad_profile(profile):
     """1 to 5, for the builder and the rule check alike."""
     refuse_if(not 1 <= profile.m <= 200, 1)
     refuse_if(not 1 <= profile.p <= profile.m, 2)
-    refuse_if(profile.cable not in (3, 5), 3)
+    refuse_if(not is_cable(profile.cable), 3)
     refuse_if(profile.rounding > 1 or profile.pps > 1, 4)
     refuse_if(profile.flags > 63, 5)
 
@@ -105,7 +117,7 @@ def default_profile(m):
     """The default profile of M alone has P equal to M, a 3 A cable, rounding
     down, no PPS and no flags; it is refused with 1 when M is out of range."""
     refuse_if(not 1 <= m <= 200, 1)
-    return Profile(m, m, 3, DOWN, 0, 0)
+    return Profile(m, m, THREE_AMPERES_IN_10_MA, DOWN, 0, 0)
 
 
 @public_call(NO_WORDS)
