@@ -12,7 +12,7 @@ numbers of messages and of sink lists are counted for each call that gives them.
 import sys
 from collections import Counter
 
-from inputs import messages, ports, ratings, requests, rules, shapes, sinks
+from inputs import cables, messages, ports, ratings, requests, rules, shapes, sinks
 from inputs.book import book
 from inputs.unreadable import STRANGE_LINES
 
@@ -37,15 +37,15 @@ ODD_BUT_READABLE = (
     "default 00",
     "default 00000000000000000000072",
     "default " + "0" * 502 + "72",
-    "build 072 072 03 00 01 000",
+    "build 072 072 0300 00 01 000",
 )
 
 
 EXAMPLE_OF_THE_PAGE = (
-    "build 72 72 3 0 1 0",
+    "build 72 72 300 0 1 0",
     "rows 130 0 0 0 0 130 0 0 0 0",
     "setup 200",
-    "attach 200 1 5",
+    "attach 200 1 500",
     "request 200 1 40051545",
     "remaining 200",
     "shape 9 00000000 00000000 00000000 00000000 00000000 00000000 00000000",
@@ -74,8 +74,9 @@ def all_lines():
     messages.message_lines()
     sinks.sink_lines()
     ratings.rating_lines()
+    cables.cable_lines()
     # the end of the input in the middle of a line: this line has no newline
-    book.put("build 72 72 3 0 1 0")
+    book.put("build 72 72 300 0 1 0")
 
 
 def count_lines():

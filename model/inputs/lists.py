@@ -2,7 +2,7 @@
 
 import charger
 from charger import Avs, Battery, Fixed, Pps, Profile, Variable
-from inputs.saying import EDGES_OF_M, said_list, words_of
+from inputs.saying import EDGES_OF_M, said_list, some_cable, words_of
 from inputs.seed import rng
 
 # -------------------------------------------------------------- good lists
@@ -13,7 +13,7 @@ def some_profile(wanted=None):
     m = rng.choice(EDGES_OF_M) if rng.random() < 0.6 else rng.randint(1, 200)
     pps = rng.randint(0, 1) if wanted is None else wanted
     p = m if pps or rng.random() < 0.4 else rng.randint(1, m)
-    return Profile(m, p, rng.choice((3, 5)), rng.randint(0, 1), pps, rng.choice((0, 0, 1, 63, rng.randrange(64))))
+    return Profile(m, p, some_cable(), rng.randint(0, 1), pps, rng.choice((0, 0, 1, 63, rng.randrange(64))))
 
 
 def built(profile):

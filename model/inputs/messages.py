@@ -85,7 +85,7 @@ def worked_lines():
     hand"."""
     for line in OF_THE_PAGE:
         book.put(line)
-    six = built(Profile(72, 72, 3, 0, 1, 0))
+    six = built(Profile(72, 72, 300, 0, 1, 0))
     for header, words in ((Header(0, 6, 0, 1, 2, 1, LIST), six), (Header(0, 1, 1, 0, 2, 0, REQUEST), [0x40051545])):
         say_both(bytes_of(header, words))
         say_write(header, MOST_BYTES, words)

@@ -7,7 +7,7 @@ from inputs.requests import (
     NOT_EXAMINED, RESERVED_WITH_FIGURES, RESERVED_WITH_VOLTAGE, request_of, request_of_figures, request_of_voltage,
     reserved_with, with_bits,
 )
-from inputs.saying import hex_of
+from inputs.saying import BAD_CABLES, hex_of, some_cable
 from inputs.seed import rng
 
 
@@ -41,14 +41,15 @@ def one_port_call(capacity, wild):
         port = rng.choice((0, len(rows) + 1, 9, 255))
     (call,) = rng.choices(PORT_CALLS, SHARES_WHEN_EMPTY if row.cable == 0 else SHARES_WHEN_ATTACHED)
     if call == "attach":
-        cable = rng.choice((3, 5, 5)) if not wild or rng.random() < 0.9 else rng.choice((0, 1, 2, 4, 6, 255))
+        # often 5 A: who may take much leaves little
+        cable = rng.choice((500, 500, some_cable())) if not wild or rng.random() < 0.9 else rng.choice(BAD_CABLES)
         book.say("attach %d %d %d" % (capacity, port, cable))
     elif call in ("advertise", "detach"):
         book.say("%s %d %d" % (call, capacity, port))
     elif call == "remaining":
         book.say("remaining %d" % capacity)
     else:
-        judged = row if row.cable else row._replace(cable=5, p=max(15, row.m))
+        judged = row if row.cable else row._replace(cable=500, p=max(15, row.m))
         word = request_of(rule_objects(judged), wild and rng.random() < 0.35)
         book.say("request %d %d %s" % (capacity, port, hex_of(word)))
 
@@ -70,7 +71,7 @@ def some_lent_rows(how_many):
     rows = []
     for _ in range(how_many):
         m = rng.choice((15, 30, 60, 90, 91, 130, 200, rng.randint(15, 200)))
-        junk = (rng.choice((0, 3, 7)), rng.choice((0, 500)), rng.choice((0, 9999)))
+        junk = (rng.choice((0, 3, 300, 65535)), rng.choice((0, 500)), rng.choice((0, 9999)))
         rows.append(Row(m, rng.randint(0, 1), *junk))
     return rows
 
@@ -83,9 +84,9 @@ def case_of_the_document():
     nine_volts_at_300 = "%08X" % request_of_figures(2, 300, 300, 0)
     for line in (
         "setup 200",
-        "attach 200 1 5",
+        "attach 200 1 500",
         "request 200 1 " + twenty_volts_at_325,
-        "attach 200 2 5",
+        "attach 200 2 500",
         "request 200 1 " + nine_volts_at_200,
         "advertise 200 2",
         "request 200 2 " + twenty_volts_at_325,
@@ -112,7 +113,7 @@ def port_runs():
         say_rows([Row(rng.randint(100, 200), rng.randint(0, 1), 0, 0, 0) for _ in range(3)])
         book.say("setup %d" % capacity)
         for port in (1, 2, 3):
-            book.say("attach %d %d 5" % (capacity, port))
+            book.say("attach %d %d 500" % (capacity, port))
         for _ in range(10):
             port = rng.randint(1, 3)
             objects = rule_objects(book.state.rows[port - 1])
@@ -124,12 +125,12 @@ def port_runs():
 def edge_of_36():
     """A request whose new held is one half watt within, at, and over what is left."""
     for left in (53, 54, 55):
-        say_rows([Row(200, 0, 5, 200, 100), Row(54, 1, 3, 54, 15)])
+        say_rows([Row(200, 0, 500, 200, 100), Row(54, 1, 300, 54, 15)])
         book.say("request %d 2 %08X" % (100 + left, request_of_figures(2, 300, 300, 0)))
         book.say("table")
     for voltage, current in ((250, 60), (275, 60), (550, 60), (500, 54), (450, 60), (451, 60)):
         for capacity in (153, 154, 155):
-            say_rows([Row(200, 0, 5, 200, 100), Row(54, 1, 3, 54, 15)])
+            say_rows([Row(200, 0, 500, 200, 100), Row(54, 1, 300, 54, 15)])
             book.say("request %d 2 %08X" % (capacity, request_of_voltage(3, voltage, current)))
             book.say("table")
 
@@ -137,7 +138,7 @@ def edge_of_36():
 def reserved_on_ports():
     """Requests beside themselves with reserved bits set, each from the same
     rows: the same answer, and the same rows after it."""
-    rows = [Row(200, 0, 5, 200, 100), Row(100, 1, 5, 100, 15)]
+    rows = [Row(200, 0, 500, 200, 100), Row(100, 1, 500, 100, 15)]
     objects = rule_objects(rows[1])
 
     def say_request(capacity, word):
@@ -184,7 +185,7 @@ def some_sound_row():
     if rng.random() < 0.3:
         return Row(m, pps, 0, 0, 15)
     p = rng.choice((m, m, rng.randint(15, m)))
-    return Row(m, pps, rng.choice((3, 5)), p, rng.choice((15, p, rng.randint(15, p))))
+    return Row(m, pps, some_cable(), p, rng.choice((15, p, rng.randint(15, p))))
 
 
 def sound_rows():
@@ -203,30 +204,30 @@ def unsound_row_forms():
     """A row at fault in each clause of soundness."""
     for m in (0, 14, 201, 65535):
         yield Row(m, 0, 0, 0, 15)
-        yield Row(m, 0, 3, 15, 15)
+        yield Row(m, 0, 300, 15, 15)
     for pps in (2, 255):
         yield Row(100, pps, 0, 0, 15)
-        yield Row(100, pps, 5, 60, 15)
+        yield Row(100, pps, 500, 60, 15)
     yield Row(100, 0, 0, 1, 15)
     yield Row(100, 0, 0, 100, 15)
     for held in (0, 14, 16, 65535):
         yield Row(100, 0, 0, 0, held)
-    for cable in (1, 2, 4, 6, 255):
+    for cable in BAD_CABLES:
         yield Row(100, 0, cable, 60, 15)
     for held in (0, 14, 61, 65535):
-        yield Row(100, 0, 3, 60, held)
-    yield Row(100, 1, 5, 101, 15)
-    yield Row(100, 1, 5, 65535, 15)
-    yield Row(100, 1, 5, 14, 14)
-    yield Row(100, 1, 5, 0, 0)
-    yield Row(100, 1, 3, 14, 15)
+        yield Row(100, 0, 300, 60, held)
+    yield Row(100, 1, 500, 101, 15)
+    yield Row(100, 1, 500, 65535, 15)
+    yield Row(100, 1, 500, 14, 14)
+    yield Row(100, 1, 500, 0, 0)
+    yield Row(100, 1, 300, 14, 15)
 
 
 def unsound_rows():
-    calls = ("attach %d 1 3", "advertise %d 1", "request %d 1 1000640A", "detach %d 1", "remaining %d")
+    calls = ("attach %d 1 300", "advertise %d 1", "request %d 1 1000640A", "detach %d 1", "remaining %d")
     for number, bad in enumerate(unsound_row_forms()):
         at = rng.randint(0, 3)
-        rows = [Row(100, 0, 5, 100, 50), Row(100, 1, 0, 0, 15), Row(15, 0, 3, 15, 15)]
+        rows = [Row(100, 0, 500, 100, 50), Row(100, 1, 0, 0, 15), Row(15, 0, 300, 15, 15)]
         rows.insert(at, bad)
         if rng.random() < 0.2:
             rows.append(bad)
@@ -235,18 +236,21 @@ def unsound_rows():
             book.say(call % 1600)
         if rng.random() < 0.3:
             book.say("request 1600 9 00000000")
-            book.say("attach 59 1 3")
+            book.say("attach 59 1 300")
             book.say("table")
     # only the sum, and the sum beside a row
-    for last in (Row(100, 0, 3, 100, 100), Row(100, 2, 3, 100, 100)):
-        say_rows([Row(100, 0, 5, 100, 100), Row(200, 0, 5, 200, 150), last])
+    for last in (Row(100, 0, 300, 100, 100), Row(100, 2, 300, 100, 100)):
+        say_rows([Row(100, 0, 500, 100, 100), Row(200, 0, 500, 200, 150), last])
         for capacity in (349, 350, 351, 45, 44, 1600, 1601):
             for call in rng.sample(calls, 2):
                 book.say(call % capacity)
         book.say("table")
     # order: 30, 32, 37, 33, 3, 34 or 35
-    say_rows([Row(100, 0, 5, 100, 100), Row(100, 0, 0, 0, 15)])
-    for line in ("29 3 4", "114 3 4", "200 3 4", "200 0 4", "200 1 4", "200 2 4", "200 1 3", "200 255 255"):
+    say_rows([Row(100, 0, 500, 100, 100), Row(100, 0, 0, 0, 15)])
+    for line in (
+        "29 3 99", "114 3 99", "200 3 99", "200 0 501", "200 1 99", "200 1 501", "200 2 501", "200 1 300",
+        "200 255 65535",
+    ):
         book.say("attach " + line)
     for line in ("advertise 200 3", "advertise 200 2", "detach 200 0", "detach 200 2"):
         book.say(line)
@@ -257,7 +261,7 @@ def unsound_rows():
 
 def row_counts():
     """30: none, and nine, whatever else is wrong."""
-    calls = ("setup %d", "attach %d 0 9", "advertise %d 1", "request %d 1 1000640A", "detach %d 9", "remaining %d")
+    calls = ("setup %d", "attach %d 0 99", "advertise %d 1", "request %d 1 1000640A", "detach %d 9", "remaining %d")
     for rows in ([], [Row(100, 0, 0, 0, 15)] * 9, [Row(0, 9, 9, 9, 9)] * 9, [Row(100, 0, 0, 0, 15)] * 8):
         say_rows(rows)
         for capacity in (0, 120, 135, 1600, 65535):
@@ -270,8 +274,8 @@ def set_ups():
     """31 and 4, row by row; 32; nothing else in the lent rows is looked at."""
     for m in (0, 1, 14, 15, 16, 199, 200, 201, 255, 256, 65535):
         for pps in (0, 1, 2, 255):
-            rows = [Row(100, 1, 9, 999, 999), Row(15, 0, 0, 0, 0), Row(200, 1, 3, 1, 1)]
-            junk = (rng.choice((0, 3, 255)), rng.choice((0, 65535)), rng.choice((15, 65535)))
+            rows = [Row(100, 1, 99, 999, 999), Row(15, 0, 0, 0, 0), Row(200, 1, 300, 1, 1)]
+            junk = (rng.choice((0, 300, 65535)), rng.choice((0, 65535)), rng.choice((15, 65535)))
             rows[rng.randrange(3)] = Row(m, pps, *junk)
             say_rows(rows)
             book.say("setup 100")

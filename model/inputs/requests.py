@@ -42,7 +42,9 @@ def request_for(position, obj, wild):
     mostly within them."""
     mismatch = int(rng.random() < 0.3)
     if isinstance(obj, Pps):
-        inside = [obj.min * 5, obj.max * 5, rng.randint(obj.min * 5, obj.max * 5)]
+        # a list whose shape is refused may have the minimum above the maximum
+        ends = sorted((obj.min * 5, obj.max * 5))
+        inside = [*ends, rng.randint(*ends)]
         outside = [figure for figure in near(obj.min * 5, obj.max * 5)] + [0, 4095]
         voltage = rng.choice(inside + outside if wild else inside)
         current = rng.choice([obj.current, rng.randint(0, obj.current)] + ([obj.current + 1, 0, 127] if wild else []))
@@ -85,7 +87,9 @@ def say_answer(words, request, count=None):
 
 def answer_avs_edges():
     """The AVS region, volts against amperes, by its corners."""
-    for figures in ((160, 130, 5, 0, 0), (160, 80, 5, 1, 0), (80, 80, 3, 0, 0), (200, 200, 5, 0, 1), (91, 91, 3, 0, 0)):
+    for figures in (
+        (160, 130, 500, 0, 0), (160, 80, 500, 1, 0), (80, 80, 300, 0, 0), (200, 200, 500, 0, 1), (91, 91, 300, 0, 0),
+    ):
         words = built(Profile(*figures, 0))
         objects = [charger.decode(word) for word in words]
         (position,) = [place for place, obj in enumerate(objects, 1) if isinstance(obj, Avs)]
@@ -137,7 +141,7 @@ def answer_reserved():
     for position in (0, 5, 8, 15):
         say_alike(words, request_of_figures(position, 0, 0, 0), (27, 21, 20, 8, 7))
     # list L of "Worked by hand": its cases, 23 before 22, and above 15 V
-    of_l = built(Profile(160, 130, 5, 0, 0, 0))
+    of_l = built(Profile(160, 130, 500, 0, 0, 0))
     for voltage, current in ((600, 65), (600, 66), (596, 65), (602, 10), (356, 10), (357, 127), (800, 65), (804, 66)):
         say_alike(of_l, request_of_voltage(5, voltage, current), RESERVED_WITH_VOLTAGE)
     say_alike(of_l, request_of_voltage(6, 600, 10), RESERVED_WITH_VOLTAGE)
@@ -153,7 +157,7 @@ def answer_reserved():
 
 def answer_orders():
     """Two faults at once: 20, 23, 22, 24, 25."""
-    words = built(Profile(100, 100, 5, 0, 1, 0))
+    words = built(Profile(100, 100, 500, 0, 1, 0))
     say_answer(words, request_of_voltage(5, 357, 127))
     say_answer(words, request_of_voltage(5, 356, 127))
     say_answer(words, request_of_voltage(5, 360, 127))

@@ -4,7 +4,9 @@ import charger
 from charger import Avs, Battery, Fixed, Pps, Profile, Variable
 from inputs.book import book
 from inputs.lists import built, said_damaged, some_profile
-from inputs.saying import EDGES_OF_M, MARKED_PROFILES, near, said_list, said_profile, words_of
+from inputs.saying import (
+    BAD_CABLES, EDGES_OF_CABLE, EDGES_OF_M, MARKED_PROFILES, near, said_list, said_profile, some_cable, words_of,
+)
 from inputs.seed import rng
 
 
@@ -18,26 +20,26 @@ def default_lines():
 def profile_edges():
     """Profiles at and past every bound of 1 to 6, one fault or several."""
     for m in (0, 201, 202, 255, 256, 257, 456, 65535):
-        yield Profile(m, m, 3, 0, 0, 0)
-        yield Profile(m, 1, 4, 2, 2, 64)
+        yield Profile(m, m, 300, 0, 0, 0)
+        yield Profile(m, 1, rng.choice(BAD_CABLES), 2, 2, 64)
     for m in (1, 30, 54, 90, 200):
         for p in (0, 1, m - 1, m, m + 1, m + 256, 65535):
-            yield Profile(m, p, 5, 0, 0, 0)
-            yield Profile(m, p, 3, 1, 1, 63)
-            yield Profile(m, p, rng.choice((0, 4)), rng.choice((0, 2)), rng.choice((1, 2)), rng.choice((63, 64)))
-    for cable in (0, 1, 2, 3, 4, 5, 6, 255):
+            yield Profile(m, p, 500, 0, 0, 0)
+            yield Profile(m, p, 300, 1, 1, 63)
+            yield Profile(m, p, rng.choice(BAD_CABLES), rng.choice((0, 2)), rng.choice((1, 2)), rng.choice((63, 64)))
+    for cable in EDGES_OF_CABLE:
         yield Profile(100, 100, cable, 0, 0, 0)
         yield Profile(100, 100, cable, 2, 0, 64)
     for rounding in (0, 1, 2, 255):
         for pps in (0, 1, 2, 255):
-            yield Profile(100, 100, 3, rounding, pps, 0)
-            yield Profile(100, 99, 3, rounding, pps, 64)
+            yield Profile(100, 100, 300, rounding, pps, 0)
+            yield Profile(100, 99, 300, rounding, pps, 64)
     for flags in (0, 1, 2, 32, 62, 63, 64, 65, 127, 128, 255):
-        yield Profile(100, 100, 5, 0, 1, flags)
-        yield Profile(100, 99, 5, 0, 1, flags)
+        yield Profile(100, 100, 500, 0, 1, flags)
+        yield Profile(100, 99, 500, 0, 1, flags)
     for m in (2, 31, 55, 90, 91, 200):
-        yield Profile(m, m - 1, 5, rng.randint(0, 1), 1, 0)
-        yield Profile(m, 1, 3, rng.randint(0, 1), 1, 63)
+        yield Profile(m, m - 1, 500, rng.randint(0, 1), 1, 0)
+        yield Profile(m, 1, 300, rng.randint(0, 1), 1, 63)
 
 
 def build_lines():
@@ -46,7 +48,7 @@ def build_lines():
     for profile in profile_edges():
         book.say("build " + said_profile(profile))
     for m in EDGES_OF_M:
-        for cable in (3, 5):
+        for cable in (rng.choice((300, 500)), some_cable()):
             book.say("build " + said_profile((m, m, cable, rng.randint(0, 1), 1, 0)))
             p = rng.choice([p for p in near(30, 54, 60, 90, 120) + [1, m, rng.randint(1, m)] if 1 <= p <= m])
             for rounding in (0, 1):
@@ -74,7 +76,7 @@ def built_objects(profile):
 
 
 def say_check(profile, objects):
-    book.say("check %s %s" % (said_profile(profile), said_list(words_of(objects))))
+    return book.say("check %s %s" % (said_profile(profile), said_list(words_of(objects))))
 
 
 def with_what_does_not_matter(profile):
@@ -86,11 +88,11 @@ def current_candidates(profile, obj):
     """Currents at and around every bound that the rule check names."""
     if isinstance(obj, Fixed):
         volts = obj.volts // 20
-        down, up, cable = 50 * profile.p // volts, -(-50 * profile.p // volts), profile.cable * 100
+        down, up, cable = 50 * profile.p // volts, -(-50 * profile.p // volts), profile.cable
         figures = near(down, up, 300, cable, min(cable, up)) + [0, 1023]
     else:
         volts = {110: 9, 160: 15, 210: 20}[obj.max]
-        down, cable = 10 * profile.m // volts, profile.cable * 20
+        down, cable = 10 * profile.m // volts, profile.cable // 5
         figures = near(down, -(-10 * profile.m // volts), 60, cable, min(cable, down)) + [0, 127]
     most = 1023 if isinstance(obj, Fixed) else 127
     return [figure for figure in figures if figure <= most]
@@ -100,7 +102,7 @@ def check_currents():
     """One current of a built list moved to a bound or past it."""
     for m in EDGES_OF_M:
         for p in (m, rng.choice((rng.randint(1, m), max(1, m - rng.choice((1, 2, 10, 40)))))):
-            profile = Profile(m, p, rng.choice((3, 5)), rng.randint(0, 1), int(p == m), 0)
+            profile = Profile(m, p, some_cable(), rng.randint(0, 1), int(p == m), 0)
             objects = built_objects(profile)
             for at, obj in enumerate(objects):
                 if isinstance(obj, Avs):
@@ -115,14 +117,14 @@ def check_prog_currents():
     """Every PPS current of a built list at the ends of what is allowed. The two
     supplies with a row in addition have a range."""
     for m in (31, 53, 54, 55, 56, 67, 68, 72, 89, 90, 91, 92, 93, 100, 119, 120, 200):
-        cables = (3, 5) if m in (55, 72, 92, 119) else (rng.choice((3, 5)),)
+        cables = (300, 500) if m in (55, 72, 92, 119) else (some_cable(),)
         for cable in cables:
             profile = Profile(m, m, cable, 0, 1, 0)
             objects = built_objects(profile)
             for at, obj in enumerate(objects):
                 if isinstance(obj, Pps):
                     volts = {110: 9, 160: 15, 210: 20}[obj.max]
-                    most = min(10 * m // volts, 20 * cable)
+                    most = min(10 * m // volts, cable // 5)
                     for figure in sorted({obj.current - 1, most, most + 1}):
                         moved = list(objects)
                         moved[at] = obj._replace(current=figure)
@@ -132,14 +134,14 @@ def check_prog_currents():
 def check_sets():
     """Sets of objects that differ from the table by one."""
     for m in (15, 30, 31, 54, 55, 72, 90, 91, 119, 120, 200):
-        profile = Profile(m, m, 5, 0, 1, 0)
+        profile = Profile(m, m, 500, 0, 1, 0)
         objects = built_objects(profile)
         if m < 200:
-            say_check(Profile(m + 1, m + 1, 5, 0, 0, 0), objects)
-            say_check(Profile(m + 1, m, 5, 0, 1, 0), objects)
+            say_check(Profile(m + 1, m + 1, 500, 0, 0, 0), objects)
+            say_check(Profile(m + 1, m, 500, 0, 1, 0), objects)
         if m > 1:
-            say_check(Profile(m - 1, m - 1, 5, 0, 0, 0), objects)
-            say_check(Profile(m, m - 1, 5, 0, 0, 0), objects)
+            say_check(Profile(m - 1, m - 1, 500, 0, 0, 0), objects)
+            say_check(Profile(m, m - 1, 500, 0, 0, 0), objects)
         fixed = [obj for obj in objects if isinstance(obj, Fixed)]
         say_check(profile, fixed)
         say_check(profile, [obj for obj in objects if not isinstance(obj, Pps)])
@@ -172,7 +174,7 @@ def check_sets():
 
 
 def check_lines():
-    words = built(Profile(100, 100, 3, 0, 0, 0))
+    words = built(Profile(100, 100, 300, 0, 0, 0))
     for profile in profile_edges():
         if rng.random() < 0.6:
             # a bad profile is told before a bad list

@@ -7,12 +7,23 @@ from inputs.seed import rng
 # M at, below and above each bound of the statement
 EDGES_OF_M = (1, 2, 14, 15, 16, 29, 30, 31, 32, 53, 54, 55, 56, 60, 72, 80, 89, 90, 91, 92, 100)
 EDGES_OF_M += (110, 118, 119, 120, 121, 130, 160, 180, 199, 200)
-MARKED_PROFILES = ((72, 72, 3, 0, 1, 0), (160, 80, 5, 1, 0, 0), (80, 80, 3, 0, 0, 0), (160, 130, 5, 0, 0, 0))
+# Cables at, below and above the bounds and the whole amperes, and about a whole 50 mA;
+# 3 and 5 would be amperes, 10 and 50 the byte of a record; and the ends of 8 and 16 bits
+EDGES_OF_CABLE = (0, 1, 3, 5, 10, 50, 99, 100, 101, 104, 105, 199, 200, 255, 256, 299, 300, 301, 400, 499, 500, 501)
+EDGES_OF_CABLE += (65535,)
+GOOD_CABLES = tuple(cable for cable in EDGES_OF_CABLE if 100 <= cable <= 500)
+BAD_CABLES = tuple(cable for cable in EDGES_OF_CABLE if not 100 <= cable <= 500)
+MARKED_PROFILES = ((72, 72, 300, 0, 1, 0), (160, 80, 500, 1, 0, 0), (80, 80, 300, 0, 0, 0), (160, 130, 500, 0, 0, 0))
 
 
 def hex_of(word):
     """8 hex digits, small or capital."""
     return ("%08x" if rng.random() < 0.2 else "%08X") % word
+
+
+def some_cable():
+    """A cable in its range, often one of 3 A or 5 A."""
+    return rng.choice((300, 500, rng.choice(GOOD_CABLES), rng.randint(100, 500)))
 
 
 def past_the_count():

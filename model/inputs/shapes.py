@@ -121,7 +121,7 @@ def shape_lines():
     for words in reserved_edges():
         book.say("shape " + said_list(words))
     for count in (0, 1, 2, 3, 4, 5, 6, 7, 8, 9, 127, 128, 255):
-        words = built(Profile(100, 100, 5, 0, 1, 0))
+        words = built(Profile(100, 100, 500, 0, 1, 0))
         book.say("shape " + said_list(words, count))
         book.say("shape " + said_list([0xFFFFFFFF] * 7, count))
         book.say("shape " + said_list([words[0]], count))
@@ -139,7 +139,7 @@ def read_lines():
         if rng.random() < 0.4:
             book.say("read " + said_list(words))
     for count in (0, 1, 4, 7, 8, 255):
-        book.say("read " + said_list(built(Profile(100, 100, 5, 0, 1, 63)), count))
+        book.say("read " + said_list(built(Profile(100, 100, 500, 0, 1, 63)), count))
     for _ in range(150):
         book.say("read " + said_list(good_words()))
     for _ in range(110):

@@ -24,7 +24,7 @@ UNREADABLE = (
     "sinkwrite 2 F 36 100 300 P 0 110 50 60", "sinkwrite 2 F 36 100 300 P 1 110 50 60", "sinkwrite 0 F 36 100 300",
     "sinkwrite 8 F 36 100 300", "sinkwrite 255 F 36 100 300", "sinkwrite 1 F 36 100 300 F 0 180 300",
     "sinkwrite 8 F 36 100 300" + " P 110 50 60" * 7, "sinkwrite 0 ", "sinkwrite 1 F 36 100 300 1201912C",
-    "sinkcheck 54 54 " + LIST, "sinkcheck 54 " + LIST + " 00000000", "sinkcheck 54 54 3 0 0 0 " + LIST,
+    "sinkcheck 54 54 " + LIST, "sinkcheck 54 " + LIST + " 00000000", "sinkcheck 54 54 300 0 0 0 " + LIST,
     # no sink object
     "sinkwrite 1 A 0 240 0", "sinkwrite 2 F 36 100 300 A 0 300 0", "sinkwrite 3 F 36 100 300 F 0 300 240 A 0 240 0",
     "sinkwrite 1 A 240 0", "sinkwrite 1 f 36 100 300", "sinkwrite 2 F 36 100 300 p 110 50 60",

@@ -51,11 +51,11 @@ def damaged_line(line):
 STRANGE_LINES = (
     # empty, or no call
     "", "", "", " ", "?", "0", "\r", "\t", "\0", "hello", "help", "exit", "quit", "> table", "x" * 512,
-    "BUILD 72 72 3 0 1 0", "Build 72 72 3 0 1 0", "builds 72 72 3 0 1 0", "\xef\xbb\xbfdefault 72",
+    "BUILD 72 72 300 0 1 0", "Build 72 72 300 0 1 0", "builds 72 72 300 0 1 0", "\xef\xbb\xbfdefault 72",
     # over 512 bytes
     "x" * 513, "a" * 5000, "x" * 600 + " table", "default " + "0" * 510 + "72", "default 72" + " " * 503,
     # a field missing
-    "build", "build 72 72 3 0 1", "default", "setup", "attach 200 1", "advertise 200", "request 200 1",
+    "build", "build 72 72 300 0 1", "default", "setup", "attach 200 1", "advertise 200", "request 200 1",
     "detach 200", "remaining", "shape 1 0001912C", "shape" + " 0001912C" * 7, "rows 1 2 3 4", "write 1",
     "write 1 F 0 0 100", "write 2 F 0 0 100 300", "write 1 0 0 100 300",
     # a field left over
@@ -68,10 +68,11 @@ STRANGE_LINES = (
     "write 1 X 0 0 100 300", "write 1 F0 0 100 300", "shape 1 1912C" + " 00000000" * 6,
     "shape 1 0x01912C" + " 00000000" * 6, "shape 1 00001912C" + " 00000000" * 6,
     # a number that its parameter cannot hold
-    "default 65536", "build 65536 72 3 0 1 0", "build 72 65536 3 0 1 0", "build 72 72 256 0 1 0",
-    "build 72 72 3 256 1 0", "build 72 72 3 0 256 0", "build 72 72 3 0 1 256", "shape 256" + " 00000000" * 7,
-    "write 256", "setup 65536", "attach 200 256 3", "attach 200 1 256", "rows 65536 0 0 0 15",
-    "rows 100 256 0 0 15", "rows 100 0 256 0 15", "rows 100 0 0 65536 15", "rows 100 0 0 0 65536",
+    "default 65536", "build 65536 72 300 0 1 0", "build 72 65536 300 0 1 0", "build 72 72 65536 0 1 0",
+    "build 72 72 65836 0 1 0", "build 72 72 300 256 1 0", "build 72 72 300 0 256 0", "build 72 72 300 0 1 256",
+    "check 72 72 65536 0 1 0 1 0001912C" + " 00000000" * 6, "shape 256" + " 00000000" * 7, "write 256", "setup 65536",
+    "attach 200 256 300", "attach 200 1 65536", "attach 200 1 65836", "rows 65536 0 0 0 15", "rows 100 256 0 0 15",
+    "rows 100 0 65536 0 15", "rows 100 0 65836 60 15", "rows 100 0 0 65536 15", "rows 100 0 0 0 65536",
 )
 
 
