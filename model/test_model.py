@@ -3,9 +3,9 @@ and properties over seeded random inputs. Ends with `N passed, 0 failed`."""
 
 import sys
 
-from tests import expecting, messages, notice, page, properties, requests, runs, sinks, statement
+from tests import cables, expecting, listing, messages, notice, page, properties, requests, runs, sinks, statement
 
-THEMES = (statement, page, notice, properties, requests, sinks, messages, runs)
+THEMES = (statement, page, notice, properties, cables, requests, sinks, messages, runs, listing)
 
 
 def main():

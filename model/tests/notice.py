@@ -5,24 +5,24 @@ from charger import Avs, Fixed, Pps, Profile
 from tests.expecting import expect
 from tests.handling import avs_built, fixed_currents, list_of, objects_built, verdict
 
-# Table 10-4: M (W), cable, P (W), currents in 10 mA, and the roundings that
-# give the row. 65 W needs none: 20 V takes 3.25 A exactly.
+# Table 10-4: M (W), cable and currents in 10 mA, P (W) between them, and the
+# roundings that give the row. 65 W needs none: 20 V takes 3.25 A exactly.
 TABLE_10_4 = (
-    (80, 5, 65, [300, 300, 300, 325], (300, 325), (0, 1)),
-    (80, 5, 40, [300, 300, 267, 200], (267, 200), (1,)),
-    (80, 3, 40, [300, 300, 267, 200], (267, 200), (1,)),
-    (40, 5, 40, [300, 300, 267], (267, 0), (1,)),
-    (40, 3, 40, [300, 300, 267], (267, 0), (1,)),
-    (80, 5, 20, [300, 222, 133, 100], (133, 100), (0,)),
-    (80, 3, 20, [300, 222, 133, 100], (133, 100), (0,)),
-    (40, 5, 20, [300, 222, 133], (133, 0), (0,)),
-    (40, 3, 20, [300, 222, 133], (133, 0), (0,)),
+    (80, 500, 65, [300, 300, 300, 325], (300, 325), (0, 1)),
+    (80, 500, 40, [300, 300, 267, 200], (267, 200), (1,)),
+    (80, 300, 40, [300, 300, 267, 200], (267, 200), (1,)),
+    (40, 500, 40, [300, 300, 267], (267, 0), (1,)),
+    (40, 300, 40, [300, 300, 267], (267, 0), (1,)),
+    (80, 500, 20, [300, 222, 133, 100], (133, 100), (0,)),
+    (80, 300, 20, [300, 222, 133, 100], (133, 100), (0,)),
+    (40, 500, 20, [300, 222, 133], (133, 0), (0,)),
+    (40, 300, 20, [300, 222, 133], (133, 0), (0,)),
 )
 
 
 def test_table_10_4():
     for m, cable, p, currents, avs, roundings in TABLE_10_4:
-        row = "table 10-4, %d W / %d A at %d W" % (m, cable, p)
+        row = "table 10-4, %d W, cable %d, at %d W" % (m, cable, p)
         found = []
         for rounding in (0, 1):
             profile = Profile(2 * m, 2 * p, cable, rounding, 0, 0)
@@ -49,11 +49,11 @@ def test_notice_examples():
     example_80 = fixed_at_3_a(5, 9, 15) + [Fixed(0, 0, 400, 400), Avs(0, 300, 400)]
     example_80 += [Pps(1, 160, 50, 60), Pps(1, 210, 50, 80)]
     for watts, offer in ((27, example_27), (36, example_36), (50, example_50)):
-        for cable in (3, 5):
+        for cable in (300, 500):
             profile = Profile(2 * watts, 2 * watts, cable, 0, 1, 0)
             expect("%d W, built" % watts, objects_built(profile), offer)
             expect("%d W, rule check" % watts, verdict(charger.check(profile, list_of(offer))), (0, 0))
-    for cable, currents in ((5, range(60, 81)), (3, range(60, 61))):
+    for cable, currents in ((500, range(60, 81)), (300, range(60, 61))):
         profile = Profile(72, 72, cable, 0, 1, 0)
         allowed = []
         for current in range(128):
@@ -63,7 +63,7 @@ def test_notice_examples():
             allowed += [current] if number == 0 else []
         expect("36 W, 9 V Prog up to 4 A with a 5 A cable", allowed, list(currents))
     # the notice's own 80 W example has a 15 V Prog, its table 10-7 and the statement have none
-    profile = Profile(160, 160, 5, 0, 1, 0)
+    profile = Profile(160, 160, 500, 0, 1, 0)
     expect("80 W as printed", verdict(charger.check(profile, list_of(example_80))), (18, 0))
     without = [obj for obj in example_80 if obj != Pps(1, 160, 50, 60)]
     expect("80 W without 15 V Prog", verdict(charger.check(profile, list_of(without))), (0, 0))

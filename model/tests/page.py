@@ -6,13 +6,13 @@ import console
 from tests.expecting import expect
 
 EXAMPLE = """\
-build 72 72 3 0 1 0
+build 72 72 300 0 1 0
 0 0 6 0001912C 0002D12C 0004B0F0 E003C000 C8DC323C C9403230
 rows 130 0 0 0 0 130 0 0 0 0
 rows 2
 setup 200
 0 0
-attach 200 1 5
+attach 200 1 500
 0 0 5 0001912C 0002D12C 0004B12C 00064145 E004B145
 request 200 1 40051545
 0 0
@@ -37,6 +37,14 @@ EXAMPLES_OF_MESSAGES = (
     ("writemsg 0 1 1 0 2 0 2 5 40051545" + ZEROS, "52 0 0 AAAAAAAAAA"),
     ("writemsg 0 1 8 0 2 0 2 0 40051545" + ZEROS, "51 0 0 -"),
     ("writemsg 0 1 1 0 2 0 2 41 40051545" + ZEROS, "?"),
+)
+
+
+EXAMPLES_OF_CABLES = (
+    ("default 72", "0 0 72 72 300 0 0 0"),
+    ("build 200 200 200 0 1 0", "0 0 6 000190C8 0002D0C8 0004B0C8 000640C8 E00320C8 C9A43228"),
+    ("build 200 200 99 0 1 0", "3 0 0"),
+    ("build 72 72 65536 0 1 0", "?"),
 )
 
 
@@ -70,7 +78,7 @@ def test_console():
     expect("a refused default", served(b"default 0"), b"1 0 0 0 0 0 0 0\n")
     expect("a refused build", served(b"build 0 0 0 0 0 0"), b"1 0 0\n")
     expect("513 bytes", served(b"default " + b"0" * 503 + b"72\ntable"), b"?\nrows 0\n")
-    expect("512 bytes", served(b"default " + b"0" * 502 + b"72\ntable"), b"0 0 72 72 3 0 0 0\nrows 0\n")
+    expect("512 bytes", served(b"default " + b"0" * 502 + b"72\ntable"), b"0 0 72 72 300 0 0 0\nrows 0\n")
     expect("100000 bytes", served(b"x" * 100_000 + b"\ntable\n"), b"?\nrows 0\n")
     expect("long at the end", served(b"x" * 65_536 + b"\n" + b"y" * 200_000), b"?\n?\n")
     expect("nine rows", served(b"rows" + b" 100 0 0 0 15" * 9 + b"\nremaining 135"), b"rows 9\n30 0 0\n")
@@ -79,6 +87,24 @@ def test_console():
     expect("write", served(b"write 1 F 127 3 100 300"), b"0 0 1 3FB1912C\n")
     expect("write too wide", served(b"write 1 F 128 3 100 300"), b"7 1 0\n")
     expect("write none", served(b"write 9"), b"10 0 0\n")
+
+
+def test_lines_of_cables():
+    """C and CABLE are numbers of 16 bits, in a profile, in attach and in rows."""
+    for line, answer in EXAMPLES_OF_CABLES:
+        expect(line, served(line.encode()).decode(), answer + "\n")
+    check = "check 30 30 %s 0 0 0 1 0001912C" + ZEROS
+    for cable, refused in (("256", False), ("0300", False), ("501", True), ("65535", True)):
+        expect("build", served(b"build 30 30 %s 0 0 0" % cable.encode())[:2], b"3 " if refused else b"0 ")
+        expect("check", served((check % cable).encode())[:2] == b"3 ", refused)
+        rows = "rows 100 0 0 0 15\nattach 200 1 %s\ntable" % cable
+        table = "rows 1 100 0 0 0 15" if refused else "rows 1 100 0 %d 100 15" % int(cable)
+        expect("attach", served(rows.encode()).decode().split("\n")[2], table)
+        rows = "rows 100 0 %s 100 15\ntable\nremaining 200" % cable
+        remaining = "37 1 0" if refused else "0 0 185"
+        expect("rows", served(rows.encode()).decode(), "rows 1\nrows 1 100 0 %d 100 15\n%s\n" % (int(cable), remaining))
+    for line in ("build 30 30 65536 0 0 0", check % "65536", "attach 200 1 65536", "rows 100 0 65536 100 15"):
+        expect(line, served(line.encode()), b"?\n")
 
 
 def test_lines_of_messages():

@@ -13,11 +13,11 @@ def test_built_lists_pass():
     rng = random.Random(1)
     profiles = []
     for m in range(1, 201):
-        for cable in (3, 5):
+        for cable in (300, 500):
             profiles += [Profile(m, m, cable, rounding, pps, 63) for rounding in (0, 1) for pps in (0, 1)]
     for _ in range(3000):
         m = rng.randint(1, 200)
-        profiles.append(Profile(m, rng.randint(1, m), rng.choice((3, 5)), rng.randint(0, 1), 0, rng.randrange(64)))
+        profiles.append(Profile(m, rng.randint(1, m), rng.randint(100, 500), rng.randint(0, 1), 0, rng.randrange(64)))
     for profile in profiles:
         built = charger.build(profile)
         expect("built, %r" % (profile,), verdict(built) + verdict(charger.check(profile, built.value)), (0, 0, 0, 0))
@@ -29,10 +29,11 @@ def test_refused_profiles():
     for _ in range(3000):
         m = rng.choice((0, 1, 200, 201, 65535, rng.randint(0, 250)))
         p = rng.choice((0, 1, m, m + 1, rng.randint(0, 250)))
-        cable, flags = rng.choice((0, 3, 3, 5, 5, 4)), rng.choice((0, 63, 63, 64))
+        cable = rng.choice((0, 3, 5, 30, 99, 100, 300, 500, 501, 65535, *[rng.randint(100, 500) for _ in range(6)]))
+        flags = rng.choice((0, 63, 63, 64))
         rounding, pps = rng.choice((0, 1, 1, 2)), rng.choice((0, 1, 1, 2))
         applies = (
-            (1, m < 1 or m > 200), (2, p < 1 or p > m), (3, cable != 3 and cable != 5),
+            (1, m < 1 or m > 200), (2, p < 1 or p > m), (3, cable < 100 or cable > 500),
             (4, rounding > 1 or pps > 1), (5, flags > 63), (6, pps == 1 and p < m),
         )
         want = ([number for number, wrong in applies if wrong] + [0])[0]

@@ -79,7 +79,7 @@ def test_bits_of_requests_to_lists():
     for _ in range(900):
         if rng.random() < 0.4:
             m = rng.randint(50, 200)
-            words = charger.build(Profile(m, m, rng.choice((3, 5)), 0, rng.randint(0, 1), 0)).value
+            words = charger.build(Profile(m, m, rng.randint(100, 500), 0, rng.randint(0, 1), 0)).value
         else:
             words = charger.list_of_words(some_words(rng))
 
@@ -109,8 +109,8 @@ def test_bits_of_requests_to_ports():
     for _ in range(600):
         m = rng.randint(31, 200)
         p = rng.choice((m, m, rng.randint(31, m)))
-        asking = Row(m, rng.randint(0, 1), rng.choice((3, 5)), p, rng.choice((15, p)))
-        rows = [asking, Row(100, 0, 5, 100, rng.randint(15, 100))]
+        asking = Row(m, rng.randint(0, 1), rng.choice((500, rng.randint(100, 500))), p, rng.choice((15, p)))
+        rows = [asking, Row(100, 0, 500, 100, rng.randint(15, 100))]
         port = rng.randint(1, 2)
         if port == 2:
             rows.reverse()

@@ -47,7 +47,7 @@ def one_run(rng, calls, seen):
     """History: what a run promises, whatever the calls. Counts what they gave."""
     lent = []
     for _ in range(rng.randint(1, 8)):
-        junk = (rng.randrange(9), rng.randrange(300), rng.randrange(300))
+        junk = (rng.randrange(600), rng.randrange(300), rng.randrange(300))
         lent.append(Row(rng.randint(15, 200), rng.randint(0, 1), *junk))
     capacity = rng.randint(15 * len(lent), 70 * len(lent))
     rows = list(lent)
@@ -60,10 +60,11 @@ def one_run(rng, calls, seen):
         before = list(rows)
         call = rng.choices(("attach", "advertise", "request", "detach", "remaining"), (4, 3, 9, 1, 1))[0]
         if call in ("attach", "advertise"):
-            cable = rng.choice((3, 5, 5, 5, 4))
+            bad = rng.random() < 0.2
+            cable = rng.choice((3, 5, 99, 501)) if bad else rng.choice((500, 500, rng.randint(100, 500)))
             if call == "attach":
                 answer = charger.attach(capacity, rows, port, cable)
-                want = 33 if not inside else 3 if cable == 4 else 34 if ledger.given[at] else 0
+                want = 33 if not inside else 3 if bad else 34 if ledger.given[at] else 0
             else:
                 answer = charger.advertise(capacity, rows, port)
                 want = 33 if not inside else 0 if ledger.given[at] else 35

@@ -9,18 +9,18 @@ from tests.handling import (
 
 # ------------------------------------------------- "Worked by hand"
 
-L = Profile(160, 130, 5, 0, 0, 0)
+L = Profile(160, 130, 500, 0, 0, 0)
 
 
 def test_checked_by_hand():
     listing = "0 6 0001912C 0002D12C 0004B0F0 E003C000 C8DC323C C9403230"
-    expect("the listing", list(charger.listing(bytes.fromhex("4800480003000100"))), [listing])
+    expect("the listing", list(charger.listing(bytes.fromhex("480048001E000100"))), [listing])
     expect("empty input", list(charger.listing(b"")), [])
     for short in range(1, 8):
         expect("a short record", list(charger.listing(b"\x48" * short)), ["9 0"])
-    expect("short after whole", list(charger.listing(bytes.fromhex("4800480003000100") + b"\0")), [listing, "9 0"])
+    expect("short after whole", list(charger.listing(bytes.fromhex("480048001E000100") + b"\0")), [listing, "9 0"])
 
-    up = Profile(160, 80, 5, 1, 0, 0)
+    up = Profile(160, 80, 500, 1, 0, 0)
     expect("M 160, P 80, up", fixed_currents(up), [300, 300, 267, 200])
     expect("its AVS word", words_built(up)[4], 0xE0042CC8)
     expect("M = P = 80", fixed_currents(of_default(80)), [300, 300, 266])
@@ -53,12 +53,12 @@ def test_shared_case():
     rows = [Row(130, 0, 0, 0, 0), Row(130, 0, 0, 0, 0)]
     expect("set up", verdict(charger.set_up(200, rows)), (0, 0))
     expect("empty rows", rows, [Row(130, 0, 0, 0, 15)] * 2)
-    expect("port 1 attaches", verdict(charger.attach(200, rows, 1, 5)), (0, 0))
-    expect("with P 130", rows[0], Row(130, 0, 5, 130, 15))
+    expect("port 1 attaches", verdict(charger.attach(200, rows, 1, 500)), (0, 0))
+    expect("with P 130", rows[0], Row(130, 0, 500, 130, 15))
     expect("20 V at 3.25 A", verdict(charger.request(200, rows, 1, figures(4, 325))), (0, 0))
     expect("held 130", rows[0].held, 130)
-    given = charger.attach(200, rows, 2, 5).value
-    expect("port 2 has P 70", rows[1], Row(130, 0, 5, 70, 15))
+    given = charger.attach(200, rows, 2, 500).value
+    expect("port 2 has P 70", rows[1], Row(130, 0, 500, 70, 15))
     expect("its currents", [word & 1023 for word in given.places[:4]], [300, 300, 233, 175])
     expect("9 V at 2 A", verdict(charger.request(200, rows, 1, figures(2, 200))), (0, 0))
     expect("held 36", rows[0].held, 36)
@@ -67,7 +67,7 @@ def test_shared_case():
     expect("port 2 takes 20 V", verdict(charger.request(200, rows, 2, figures(4, 325))), (0, 0))
     expect("port 1 asks 20 V", verdict(charger.request(200, rows, 1, figures(4, 325))), (36, 1))
     expect("port 1 asks 9 V at 3 A", verdict(charger.request(200, rows, 1, figures(2, 300))), (0, 0))
-    expect("held 54", rows, [Row(130, 0, 5, 130, 54), Row(130, 0, 5, 130, 130)])
+    expect("held 54", rows, [Row(130, 0, 500, 130, 54), Row(130, 0, 500, 130, 130)])
     expect("remaining", charger.remaining(200, rows), (0, 0, 16))
 
 
@@ -93,7 +93,7 @@ def test_messages_worked_by_hand():
             buffer = bytearray(b"\x77" * (len(lent) + more))
             expect("written", charger.write_message(message, buffer), (0, 0, len(lent)))
             expect("its bytes, and those past it", buffer, lent + b"\x77" * more)
-    expect("the words of the first case", tuple(words_built(Profile(72, 72, 3, 0, 1, 0))), six)
+    expect("the words of the first case", tuple(words_built(Profile(72, 72, 300, 0, 1, 0))), six)
 
 
 # ---------------------------------------------- "What the contracts settle"
@@ -104,14 +104,15 @@ def test_orders():
     check = lambda *figures: verdict(charger.check(Profile(*figures), charger.build(L).value))
     build = lambda *figures: verdict(charger.build(Profile(*figures)))
     for call in (check, build):
-        expect("1 first", call(0, 0, 4, 2, 2, 64), (1, 0))
-        expect("2 next", call(200, 201, 4, 2, 2, 64), (2, 0))
-        expect("3 next", call(200, 200, 4, 2, 2, 64), (3, 0))
-        expect("4 next", call(200, 200, 5, 2, 0, 64), (4, 0))
-        expect("4 for PPS too", call(200, 200, 5, 0, 2, 64), (4, 0))
-        expect("5 next", call(200, 199, 5, 0, 1, 64), (5, 0))
-    expect("6, builder only", build(160, 130, 5, 0, 1, 0), (6, 0))
-    expect("the rule check knows no 6", check(160, 130, 5, 0, 1, 0), (0, 0))
+        for cable in (99, 501):
+            expect("1 first", call(0, 0, cable, 2, 2, 64), (1, 0))
+            expect("2 next", call(200, 201, cable, 2, 2, 64), (2, 0))
+            expect("3 next", call(200, 200, cable, 2, 2, 64), (3, 0))
+        expect("4 next", call(200, 200, 500, 2, 0, 64), (4, 0))
+        expect("4 for PPS too", call(200, 200, 500, 0, 2, 64), (4, 0))
+        expect("5 next", call(200, 199, 500, 0, 1, 64), (5, 0))
+    expect("6, builder only", build(160, 130, 500, 0, 1, 0), (6, 0))
+    expect("the rule check knows no 6", check(160, 130, 500, 0, 1, 0), (0, 0))
     shape = lambda count, *words: verdict(charger.shape(Words(count, words + (0xFFFFFFFF,) * (7 - len(words)))))
     first = 0x0001912C
     expect("count 0", shape(0), (10, 0))
@@ -131,10 +132,10 @@ def test_orders():
     expect("10 before 7", verdict(charger.write(charger.Objects(8, wide.places))), (10, 0))
     later_flags = charger.list_of_objects([Fixed(0, 0, 100, 0), Fixed(1, 0, 180, 0)])
     expect("flags after the first word", verdict(charger.write(later_flags)), (13, 2))
-    sums = [Row(100, 0, 5, 100, 100), Row(100, 0, 5, 100, 100)]
+    sums = [Row(100, 0, 500, 100, 100), Row(100, 0, 500, 100, 100)]
     expect("only the sum", charger.remaining(199, sums), (37, 0, 0))
     expect("the sum fits", charger.remaining(200, sums), (0, 0, 0))
-    expect("a row and the sum", charger.remaining(199, [sums[0], Row(100, 0, 4, 100, 100)]), (37, 2, 0))
+    expect("a row and the sum", charger.remaining(199, [sums[0], Row(100, 0, 99, 100, 100)]), (37, 2, 0))
     expect("nine rows", charger.remaining(0, sums * 4 + sums[:1]), (30, 0, 0))
     lent = [Row(100, 2, 9, 9, 9), Row(14, 0, 0, 0, 0)]
     expect("row by row 31, 4", verdict(charger.set_up(30, lent)), (4, 1))
@@ -144,8 +145,8 @@ def test_orders():
 def test_order_of_a_request():
     """20, 23, 22, 24, 25: all that comes later is at fault too, and each is the
     same with the reserved bits set."""
-    words = charger.build(Profile(100, 100, 5, 0, 1, 0)).value
-    rows = [Row(100, 1, 5, 100, 15)]
+    words = charger.build(Profile(100, 100, 500, 0, 1, 0)).value
+    rows = [Row(100, 1, 500, 100, 15)]
     with_figures, with_voltage = 1 << 27 | 1 << 21 | 1 << 20, 1 << 27 | 1 << 21 | 1 << 8 | 1 << 7
     for what, number, word, reserved in (
         ("no position, and figures", 20, figures(8, 1023), with_figures),
@@ -266,8 +267,11 @@ def test_objects_of_no_kind():
 
 def test_accepted_currents():
     """The rule check against the sentence, by trying every current."""
-    tried = ((200, 200, 5), (200, 200, 3), (160, 130, 5), (160, 91, 5), (160, 90, 3))
-    tried += ((91, 31, 3), (90, 30, 5), (130, 54, 5), (130, 55, 5), (100, 1, 3))
+    tried = ((200, 200, 500), (200, 200, 300), (160, 130, 500), (160, 91, 500), (160, 90, 300))
+    tried += ((91, 31, 300), (90, 30, 500), (130, 54, 500), (130, 55, 500), (100, 1, 300))
+    # leads of 2 A and 4 A, the bounds of a cable, and those a step beside 3 A
+    tried += ((200, 200, 200), (200, 60, 200), (160, 37, 200), (200, 200, 400), (200, 73, 400), (160, 121, 400))
+    tried += ((200, 200, 100), (90, 10, 100), (200, 200, 299), (200, 200, 301), (200, 199, 499))
     for m, p, cable in tried:
         profile = Profile(m, p, cable, 0, 0, 0)
         good = objects_built(profile)
@@ -284,10 +288,8 @@ def test_accepted_currents():
                     allowed.append(current)
             v = obj.volts // 20
             either = sorted({n for n in range(2001) if abs(n * v - 50 * p) < v})
-            if v == 20:
-                want = sorted({min(n, cable * 100) for n in either})
-            elif p > 6 * v:
-                want = list(range(300, min(cable * 100, max(either)) + 1))
+            if v < 20 and p > 6 * v:
+                want = list(range(min(300, cable), min(cable, max(either)) + 1))
             else:
-                want = either
+                want = sorted({min(n, cable) for n in either})
             expect("currents at %d V for %r" % (v, profile), allowed, want)
