@@ -57,7 +57,7 @@ ends() {
 }
 
 listing="0 6 0001912C 0002D12C 0004B0F0 E003C000 C8DC323C C9403230"
-printf '\x48\x00\x48\x00\x03\x00\x01\x00' > "$made/record"
+printf '\x48\x00\x48\x00\x1E\x00\x01\x00' > "$made/record"
 
 for word in example caps console board test "caps --help" "console --help" "board --help" --help; do
   # shellcheck disable=SC2086 # a word may be two

@@ -7,7 +7,7 @@
 --     before, behind   the locals of the result and of the three parameters, and those of the shape
 --     shape            the statements, at the locals that a call has between the two, and at the operands that `decide` has of them
 --     shares           the walk of these statements. In the context the rows and their token stand at the head, then two entries of the
---                      call's own, which stay as they are, and then the locals
+--                      call's own, which stay as they are, then the locals, and behind them more entries of the call's own, or none
 -- Assumes `Given`, and that the table of calls is monotone under a frame, as every `Tables` is.
 use mathlib.Core.Path.{_≡_, refl, sym, ap, subst}
 use Prim.Native.Nat.{ℕ, zero, suc, _+_, _<_, _^_}
@@ -155,7 +155,7 @@ module _ (r : Loan) (capacity port : ℕ) where
   own-row = rowOf (r .rows) (placeOf stood port)
 
 module _ {M : Type 1} {𝓤 : URA M} {H : Heap 𝓤} {A : Atoms 𝓤} {K : Type 0} {W : Given 𝓤 H A} {C : Calls 𝓤 H} {Λ : Loops 𝓤 H} {q : Post 𝓤 H}
-    {rest : Body} {decide : Name} {xs : List Operand} {X Y : Item 𝓤} {extra : List Data} (F : Standing → Row → ℕ → ℕ → Tuple extra → Change)
+    {rest : Body} {decide : Name} {xs : List Operand} {X Y : Item 𝓤} {Z : List (Item 𝓤)} {extra : List Data} (F : Standing → Row → ℕ → ℕ → Tuple extra → Change)
     (r : Loan) (capacity port : ℕ) (more : Tuple extra) (τ : Ty) (l : Blocks (before τ)) (Ex : List (Ty × ℕ)) (t : Blocks behind) where
   pub shares : K → FmC 𝓤 H (W .laws) C → Stands 𝓤 H A C → RowOf 𝓤 H A C → PutsRow 𝓤 H A C
       → ByValue 𝓤 H A C decide (standing ∷ row ∷ half-watts ∷ number w8 ∷ extra) change
@@ -165,13 +165,13 @@ module _ {M : Type 1} {𝓤 : URA M} {H : Heap 𝓤} {A : Atoms 𝓤} {K : Type 
       (flat (typesAt (slots 0 extra) tt) (machine 0 tt extra (placed 0 tt extra more))))
       → (let s = stood r capacity port in let y = own-row r capacity port in let c = F s y capacity port more in IsA change c
       → Seq K W (‵ (finally R (r .name) (set (r .rows) (c .at) (c .row))) ∷ ‵ (token r) ∷ X ∷ Y
-      ∷ cells 𝓤 (envOf (before τ) l ++ envOf behind t) (none ∷ some (slice r) ∷ some (vint w16 capacity) ∷ some (vint w8 port)
+      ∷ (cells 𝓤 (envOf (before τ) l ++ envOf behind t) (none ∷ some (slice r) ∷ some (vint w16 capacity) ∷ some (vint w8 port)
       ∷ some (standing .val s) ∷ some (row .val y) ∷ some (change .val c)
       ∷ some (vptr (r .block) (r .offset)) ∷ some (slice r) ∷ some (half-watts .val (halfWatts capacity))
-      ∷ some (vptr (r .block) (r .offset)) ∷ some (slice r) ∷ some vunit ∷ some (vptr (r .block) (r .offset)) ∷ some (slice r) ∷ []))
+      ∷ some (vptr (r .block) (r .offset)) ∷ some (slice r) ∷ some vunit ∷ some (vptr (r .block) (r .offset)) ∷ some (slice r) ∷ []) ++ Z))
       (runs C Λ (env τ l Ex t) rest q))
-      → Seq K W (‵ (mine r) ∷ ‵ (token r) ∷ X ∷ Y ∷ cells 𝓤 (envOf (before τ) l ++ envOf behind t)
-      (none ∷ some (slice r) ∷ some (vint w16 capacity) ∷ some (vint w8 port) ∷ []))
+      → Seq K W (‵ (mine r) ∷ ‵ (token r) ∷ X ∷ Y ∷ (cells 𝓤 (envOf (before τ) l ++ envOf behind t)
+      (none ∷ some (slice r) ∷ some (vint w16 capacity) ∷ some (vint w8 port) ∷ []) ++ Z))
       (runs C Λ (env τ l Ex t) (shape Ex decide xs rest) q)
   shares g fm stands row-of puts decides capacity-fits port-fits are operands k =
       -- local k of the result and the parameters is at 4 + 2 * k, and local k of the shape at 12 + 2 * k

@@ -20,6 +20,8 @@ use Rattle.verdicts.proofs.Verdict as v
 use Rattle.verdicts.proofs.Verdict.Laws as v′
 use Rattle.steps.proofs.HalfWatts as h
 use Rattle.steps.proofs.HalfWatts.Laws as h′
+use Rattle.steps.proofs.Ma10 as a
+use Rattle.steps.proofs.Ma10.Laws as a′
 use Rattle.lists.proofs.Listing as l
 use Rattle.lists.proofs.Listing.Laws as l′
 use Rattle.ports.proofs.Row as r
@@ -30,7 +32,7 @@ use Rattle.ports.proofs.Change as c
 use Rattle.ports.proofs.Change.Laws as c′
 use Rattle.ports.proofs.RemainingPower as p
 use Rattle.ports.proofs.RemainingPower.Laws as p′
-use Rattle.rules.specs.Profiles.{halfWatts}
+use Rattle.rules.specs.Profiles.{halfWatts, in10mA}
 use Rattle.ports.specs.declared.Row.{Row}
 use Rattle.ports.specs.declared.Standing.{Standing}
 use Rattle.ports.specs.declared.Change.{Change}
@@ -42,6 +44,9 @@ verdict = struct v.the-type v′.the-laws v′.the-copy v′.the-plain
 
 abbrev pub half-watts : Data
 half-watts = struct h.the-type h′.the-laws h′.the-copy h′.the-plain
+
+abbrev pub ma10 : Data
+ma10 = struct a.the-type a′.the-laws a′.the-copy a′.the-plain
 
 abbrev pub listing : Data
 listing = struct l.the-type l′.the-laws l′.the-copy l′.the-plain
@@ -61,10 +66,13 @@ remaining-power = struct p.the-type p′.the-laws p′.the-copy p′.the-plain
 pub half-watts-is : (n : ℕ) → n < 2 ^ 16 → IsA half-watts (halfWatts n)
 half-watts-is n fits = LL.owes h.the-type h′.the-laws (halfWatts n) ((refl, fits), tt)
 
+pub ma10-is : (n : ℕ) → n < 2 ^ 16 → IsA ma10 (in10mA n)
+ma10-is n fits = LL.owes a.the-type a′.the-laws (in10mA n) ((refl, fits), tt)
+
 pub no-row-is : IsA row noRow
 no-row-is =
     let none = half-watts-is 0 (lit< tt) in
-    LL.owes r.the-type r′.the-laws noRow (none, ((refl, lit< tt), ((refl, lit< tt), (none, (none, tt)))))
+    LL.owes r.the-type r′.the-laws noRow (none, ((refl, lit< tt), (ma10-is 0 (lit< tt), (none, (none, tt)))))
 
 pub fault-is : (x : Standing) → IsA standing x → IsA verdict (x .fault)
 fault-is x is = LL.owed s.the-type s′.the-laws x _ is .0
@@ -89,6 +97,9 @@ vals y = row .val y ∷ []
 pub copies : {M : Type 1} (𝓤 : URA M) (H : Heap 𝓤) (A : Atoms 𝓤) → Given 𝓤 H A → Copy 𝓤 H A R
 copies 𝓤 H A W = LL.copy r.the-type r′.the-copy 𝓤 H A W
 
--- a row is 8 bytes
-pub offset-fits : (n i : ℕ) → Room R n → i < n → i * 8 < 2 ^ 64
+-- how far one row is from the next
+abbrev pub row-bytes : ℕ
+row-bytes = 10
+
+pub offset-fits : (n i : ℕ) → Room R n → i < n → i * row-bytes < 2 ^ 64
 offset-fits n i room l = omega (arith, room .1, l)

@@ -8,6 +8,7 @@ use lists::Listing;
 use ports::RemainingPower;
 use ports::Row;
 use steps::HalfWatts;
+use steps::Ma10;
 use verdicts::Verdict;
 
 // Empties every port: cable 0, present power 0, 15 half watts held. Of the rows as lent only `max` and `pps` matter. The capacity is in half
@@ -22,15 +23,16 @@ pub extern "C" fn arin_set_up(rows: &mut [Row], capacity: u16) -> Verdict
     standing.fault
 }
 
-// A cable of 3 or 5 amperes came to an empty port; port n is `rows[n - 1]`. Sets its present power to the smaller of its maximum and what
-// the other ports leave, and answers the list to send. Refusals: 30, 32, 37 (the first row at fault, or 0), 33, 3, 34 (the row).
+// A cable came to an empty port, with what it carries in 10 mA, 100 to 500; port n is `rows[n - 1]`. Sets its present power to the smaller of
+// its maximum and what the other ports leave, and answers the list to send. Refusals: 30, 32, 37 (the first row at fault, or 0), 33, 3, 34 (the row).
 #[no_mangle]
-pub extern "C" fn arin_attach(rows: &mut [Row], capacity: u16, port: u8, cable: u8) -> Listing
+pub extern "C" fn arin_attach(rows: &mut [Row], capacity: u16, port: u8, cable: u16) -> Listing
     ensures { λ r. ⌜ SharesAttach (now (rows .entry)) capacity port cable r (now (rows .exit)) ⌝ }
 {
+    let rating = Ma10(cable);
     let standing = stand(&*rows, HalfWatts(capacity), ports::SOUND);
     let row = row_of(&*rows, standing, port);
-    let change = ports::attach(standing, row, HalfWatts(capacity), port, cable);
+    let change = ports::attach(standing, row, HalfWatts(capacity), port, rating);
     put_row(rows, change.at, change.row);
     ports::offer(change)
 }

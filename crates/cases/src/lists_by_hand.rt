@@ -83,15 +83,15 @@ pub(crate) fn list_l() -> Words {
 }
 
 fn marked_by_profile() {
-    // The record 48 00 48 00 03 00 01 00.
-    let p = profile(72, 72, 3, DOWN, PPS);
+    // The record 48 00 48 00 1E 00 01 00.
+    let p = profile(72, 72, 300, DOWN, PPS);
     tell(b"the listing, 36 W", is_built(p, listing()));
-    let p = profile(160, 80, 5, UP, NO_PPS);
+    let p = profile(160, 80, 500, UP, NO_PPS);
     tell(
         b"M 160, P 80, 5 A, up: fixed 300, 300, 267, 200; AVS word E0042CC8",
         is_built(p, rounded_up()),
     );
-    let p = profile(160, 130, 5, DOWN, NO_PPS);
+    let p = profile(160, 130, 500, DOWN, NO_PPS);
     tell(
         b"L, M 160, P 130, 5 A, down: fixed 300, 300, 300, 325; AVS 300 and 325",
         is_built(p, list_l()),

@@ -4,6 +4,7 @@ use lists::NO_WORDS;
 use lists::Words;
 use rules::Profile;
 use steps::HalfWatts;
+use steps::Ma10;
 
 pub const NONE: u32 = 0;
 
@@ -15,12 +16,12 @@ pub const NO_PPS: u8 = 0;
 
 pub const PPS: u8 = 1;
 
-// M and P in half watts, the cable in amperes.
-pub(crate) fn profile(max: u16, present: u16, cable: u8, rounding: u8, pps: u8) -> Profile {
+// M and P in half watts, the cable in 10 mA.
+pub(crate) fn profile(max: u16, present: u16, cable: u16, rounding: u8, pps: u8) -> Profile {
     Profile {
         max: HalfWatts(max),
         present: HalfWatts(present),
-        cable,
+        cable: Ma10(cable),
         rounding,
         pps,
         flags: 0,
@@ -32,7 +33,7 @@ fn half_watts(watts: u8) -> u16 {
 }
 
 // The same in watts, in the order of the notice's table 10-4: port maximum and cable, then port present.
-pub(crate) fn port(maximum: u8, cable: u8, present: u8, rounding: u8, pps: u8) -> Profile {
+pub(crate) fn port(maximum: u8, cable: u16, present: u8, rounding: u8, pps: u8) -> Profile {
     profile(
         half_watts(maximum),
         half_watts(present),

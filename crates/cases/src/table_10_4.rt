@@ -13,7 +13,7 @@ use crate::printing::tell;
 
 fn row(
     maximum: u8,
-    cable: u8,
+    cable: u16,
     present: u8,
     rounding: u8,
     at_5_v: u32,
@@ -30,30 +30,30 @@ fn row(
 
 // Columns: port maximum and cable, port present, rounding; 5 V, 9 V, 15 V, 20 V; AVS 9 to 15 V, AVS 15 to 20 V.
 fn at_65_w() {
-    let down = row(80, 5, 65, DOWN, 300, 300, 300, 325, 300, 325);
-    let up = row(80, 5, 65, UP, 300, 300, 300, 325, 300, 325);
+    let down = row(80, 500, 65, DOWN, 300, 300, 300, 325, 300, 325);
+    let up = row(80, 500, 65, UP, 300, 300, 300, 325, 300, 325);
     tell(b"table 10-4, 80 W / 5 A, 65 W, either rounding", down && up);
 }
 
 fn at_40_w() {
-    let right = row(80, 5, 40, UP, 300, 300, 267, 200, 267, 200);
+    let right = row(80, 500, 40, UP, 300, 300, 267, 200, 267, 200);
     tell(b"table 10-4, 80 W / 5 A, 40 W, up", right);
-    let right = row(80, 3, 40, UP, 300, 300, 267, 200, 267, 200);
+    let right = row(80, 300, 40, UP, 300, 300, 267, 200, 267, 200);
     tell(b"table 10-4, 80 W / 3 A, 40 W, up", right);
-    let right = row(40, 5, 40, UP, 300, 300, 267, NONE, 267, NONE);
+    let right = row(40, 500, 40, UP, 300, 300, 267, NONE, 267, NONE);
     tell(b"table 10-4, 40 W / 5 A, 40 W, up", right);
-    let right = row(40, 3, 40, UP, 300, 300, 267, NONE, 267, NONE);
+    let right = row(40, 300, 40, UP, 300, 300, 267, NONE, 267, NONE);
     tell(b"table 10-4, 40 W / 3 A, 40 W, up", right);
 }
 
 fn at_20_w() {
-    let right = row(80, 5, 20, DOWN, 300, 222, 133, 100, 133, 100);
+    let right = row(80, 500, 20, DOWN, 300, 222, 133, 100, 133, 100);
     tell(b"table 10-4, 80 W / 5 A, 20 W, down", right);
-    let right = row(80, 3, 20, DOWN, 300, 222, 133, 100, 133, 100);
+    let right = row(80, 300, 20, DOWN, 300, 222, 133, 100, 133, 100);
     tell(b"table 10-4, 80 W / 3 A, 20 W, down", right);
-    let right = row(40, 5, 20, DOWN, 300, 222, 133, NONE, 133, NONE);
+    let right = row(40, 500, 20, DOWN, 300, 222, 133, NONE, 133, NONE);
     tell(b"table 10-4, 40 W / 5 A, 20 W, down", right);
-    let right = row(40, 3, 20, DOWN, 300, 222, 133, NONE, 133, NONE);
+    let right = row(40, 300, 20, DOWN, 300, 222, 133, NONE, 133, NONE);
     tell(b"table 10-4, 40 W / 3 A, 20 W, down", right);
 }
 

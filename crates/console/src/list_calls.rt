@@ -9,6 +9,7 @@ use lines::take_word;
 use object_lines::take_list;
 use rules::Profile;
 use steps::HalfWatts;
+use steps::Ma10;
 
 struct ProfileFields {
     profile: Profile,
@@ -19,14 +20,14 @@ struct ProfileFields {
 fn take_profile(line: &[u8], at: usize) -> ProfileFields {
     let max = take_number(line, at);
     let present = take_number(line, max.next);
-    let cable = take_small_number(line, present.next);
+    let cable = take_number(line, present.next);
     let rounding = take_small_number(line, cable.next);
     let pps = take_small_number(line, rounding.next);
     let flags = take_small_number(line, pps.next);
     let profile = Profile {
         max: HalfWatts(max.value),
         present: HalfWatts(present.value),
-        cable: cable.value,
+        cable: Ma10(cable.value),
         rounding: rounding.value,
         pps: pps.value,
         flags: flags.value,
@@ -40,7 +41,7 @@ fn take_profile(line: &[u8], at: usize) -> ProfileFields {
 fn put_profile(out: &mut [u8; 4096], end: usize, profile: Profile) -> usize {
     let max = put_field(out, end, profile.max.0);
     let present = put_field(out, max, profile.present.0);
-    let cable = put_field(out, present, profile.cable as u16);
+    let cable = put_field(out, present, profile.cable.0);
     let rounding = put_field(out, cable, profile.rounding as u16);
     let pps = put_field(out, rounding, profile.pps as u16);
     put_field(out, pps, profile.flags as u16)

@@ -18,6 +18,7 @@ use ports::Row;
 use ports::Standing;
 use ports::emptied;
 use steps::HalfWatts;
+use steps::Ma10;
 
 // One pass judges and sums.
 fn stand(table: Table, capacity: HalfWatts, fresh: bool) -> Standing {
@@ -104,7 +105,7 @@ pub(crate) fn attach_line(
 ) -> Answered {
     let capacity = take_number(line, at);
     let port = take_small_number(line, capacity.next);
-    let cable = take_small_number(line, port.next);
+    let cable = take_number(line, port.next);
     if cable.next != line.len() {
         return unreadable(out, end, table);
     }
@@ -115,7 +116,7 @@ pub(crate) fn attach_line(
         own,
         HalfWatts(capacity.value),
         port.value,
-        cable.value,
+        Ma10(cable.value),
     );
     let row = change.row;
     let answer = ports::offer(change);

@@ -10,6 +10,7 @@ use lines::take_small_number;
 use ports::NO_ROW;
 use ports::Row;
 use steps::HalfWatts;
+use steps::Ma10;
 
 // Up to nine rows, one more than the sharing calls take, so that a table too long can be shown to be refused.
 pub(crate) struct Table {
@@ -33,11 +34,11 @@ struct TableFields {
     next: usize,
 }
 
-fn row_of(max: u16, pps: u8, cable: u8, present: u16, held: u16) -> Row {
+fn row_of(max: u16, pps: u8, cable: u16, present: u16, held: u16) -> Row {
     Row {
         max: HalfWatts(max),
         pps,
-        cable,
+        cable: Ma10(cable),
         present: HalfWatts(present),
         held: HalfWatts(held),
     }
@@ -87,7 +88,7 @@ pub(crate) fn unreadable(out: &mut [u8; 4096], end: usize, table: Table) -> Answ
 fn take_row(line: &[u8], at: usize) -> RowField {
     let max = take_number(line, at);
     let pps = take_small_number(line, max.next);
-    let cable = take_small_number(line, pps.next);
+    let cable = take_number(line, pps.next);
     let present = take_number(line, cable.next);
     let held = take_number(line, present.next);
     let row = row_of(max.value, pps.value, cable.value, present.value, held.value);
@@ -125,7 +126,7 @@ fn put_row_count(out: &mut [u8; 4096], end: usize, table: Table) -> usize {
 fn put_row(out: &mut [u8; 4096], end: usize, row: Row) -> usize {
     let max = put_field(out, end, row.max.0);
     let pps = put_field(out, max, row.pps as u16);
-    let cable = put_field(out, pps, row.cable as u16);
+    let cable = put_field(out, pps, row.cable.0);
     let present = put_field(out, cable, row.present.0);
     put_field(out, present, row.held.0)
 }

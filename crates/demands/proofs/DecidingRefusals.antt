@@ -55,7 +55,7 @@ module _ (s : Standing) (rs : List Refusal) (t : Telling rs) (port : ℕ) (y : R
 pub attach-decides : AttachDecidesFirst
 unfolding attachChange
 attach-decides s y capacity port cable r e =
-    decides s (attachEndRefusals (capacity .0) s y port cable) (attach-telling (capacity .0) s port y cable) port _ r e
+    decides s (attachEndRefusals (capacity .0) s y port (cable .0)) (attach-telling (capacity .0) s port y (cable .0)) port _ r e
 
 pub advertise-decides : AdvertiseDecidesFirst
 unfolding advertiseChange

@@ -93,7 +93,7 @@ module _ (capacity : ℕ) (start : List Row) (h : ℕ → Known) (ys : List Row)
   advertise-next port r zs e a =
       let l = at port (a .from-1) (a .to-count) in
       e .0 ∙ all-missed writeRefused _ (useRefusals capacity ys port) (use-passes port a)
-      ∙ ap (λ (w : Words). record { verdict = success; list = w }) (offered-list port (portRow ys port .cable) l)
+      ∙ ap (λ (w : Words). record { verdict = success; list = w }) (offered-list port (portRow ys port .cable .0) l)
       ∙ ap (λ (c : ℕ). record {
         verdict = success;
         list = listFor (maxOf start (port - 1)) (wantedOf start (port - 1)) c (smaller capacity
@@ -123,7 +123,7 @@ module _ (capacity : ℕ) (start : List Row) (h : ℕ → Known) (ys : List Row)
         good-cable = rest .0;
         free =
             sym (same-cable capacity start h ys k port (port-at capacity ys port p))
-            ∙ not-false (eqb (portRow ys port .cable) 0) (rest .1 .0);
+            ∙ not-false (eqb (portRow ys port .cable .0) 0) (rest .1 .0);
       }
 
   advertise-so : (port : ℕ) (r : Listing) (zs : List Row) → SharesAdvertise ys capacity port r zs

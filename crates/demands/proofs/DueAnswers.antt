@@ -33,7 +33,7 @@ use Rattle.demands.proofs.Demand3.{demand-3}
 same-of : (m wanted : ℕ) (before after : Known) (y z : Row) → Agrees m wanted before y → Agrees m wanted after z → z ≡ y
     → Same before after
 same-of m wanted before after y z a b e =
-    let c = sym (b .cable-is) ∙ ap (λ (x : Row). x .cable) e ∙ a .cable-is in
+    let c = sym (b .cable-is) ∙ ap (λ (x : Row). x .cable .0) e ∙ a .cable-is in
     record {
       cable = c;
       figure = sym (b .held-is) ∙ ap (λ (x : Row). x .held .0) e ∙ a .held-is;

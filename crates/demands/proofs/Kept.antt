@@ -34,7 +34,7 @@ use Rattle.demands.proofs.SoundRows.{of-clear, to-clear, by-place, empt
 pub record Agrees (m wanted : ℕ) (p : Known) (y : Row) : Type 0 where
   pub max-is : y .max .0 ≡ m
   pub pps-is : y .pps ≡ wanted
-  pub cable-is : y .cable ≡ p .cable
+  pub cable-is : y .cable .0 ≡ p .cable
   pub held-is : y .held .0 ≡ p .figure
   pub present-is : eqb (p .cable) 0 ≡ false → y .present .0 ≡ p .present
   pub list-is : eqb (p .cable) 0 ≡ false → p .list ≡ ruleList y
@@ -150,7 +150,7 @@ module _ (capacity : ℕ) (start : List Row) (h : ℕ → Known) (ys : List Row)
     pub same-held : eqb (of .cable) 0 ≡ false → (word : ℕ) → newHeld row word ≡ newFigure h port word
     same-held e word = ap₂ (λ (l : Words) (n : ℕ). heldFor l n word) (sym (now-agrees .list-is e)) (now-agrees .present-is e)
 
-    pub same-cable : eqb (row .cable) 0 ≡ eqb (of .cable) 0
+    pub same-cable : eqb (row .cable .0) 0 ≡ eqb (of .cable) 0
     same-cable = ap (λ (n : ℕ). eqb n 0) (now-agrees .cable-is)
 
     -- what is written agrees with what is learnt
@@ -222,7 +222,7 @@ module _ (capacity : ℕ) (start : List Row) (h : ℕ → Known) (ys : List Row)
         let at = port-at capacity ys port port-x in
         let free = none-right (portRefusals capacity ys port) (cannotAttach (portRow ys port) port cable) x .1 .0 in
         let held = sound-empty (portRow ys port) (row-sound capacity ys port port-x) (not-false (eqb (portRow
-        ys port .cable) 0) free) .held-15 in
+        ys port .cable .0) 0) free) .held-15 in
         accepted-kept capacity start h ys k (r .verdict) port attach-tells attach-writes zs (ap (λ (l : Listing). l .verdict .number) told)
         (e .1 ∙ all-missed (λ n q. ys) _ attach-table x) at
         (subst (λ (l : Words). Agrees (maxOf start (port - 1)) (wantedOf start (port - 1))
@@ -238,7 +238,7 @@ module _ (capacity : ℕ) (start : List Row) (h : ℕ → Known) (ys : List Row)
     advertise-table = useRefusals capacity ys port
 
     abbrev advertise-writes : Row
-    advertise-writes = offered capacity ys port (portRow ys port .cable)
+    advertise-writes = offered capacity ys port (portRow ys port .cable .0)
 
     abbrev advertise-tells : Known
     advertise-tells = record {
@@ -282,7 +282,7 @@ module _ (capacity : ℕ) (start : List Row) (h : ℕ → Known) (ys : List Row)
           figure = h
               (port - 1) .figure;
         }) advertise-writes)
-        (now .cable-is) (offer-agrees capacity start h ys k port at (portRow ys port .cable) (h (port - 1) .figure) (now .held-is))))
+        (now .cable-is) (offer-agrees capacity start h ys k port at (portRow ys port .cable .0) (h (port - 1) .figure) (now .held-is))))
         (advertise-keeps capacity ys sound port r zs e)
 
     advertise-kept : Kept capacity start (learnt capacity (length start) (maxOf start) h (advertised port r)) zs

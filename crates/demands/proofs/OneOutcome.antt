@@ -142,7 +142,7 @@ write-settles o r s e f = only e f
 -- ---- rules
 
 pub bad-cable-settles : Settled BadCableAnswers
-bad-cable-settles amperes r s e f = only e f
+bad-cable-settles cable r s e f = only e f
 
 pub default-settles : Settled DefaultAnswers
 default-settles m r s e f = only e f

@@ -24,10 +24,10 @@ use Rattle.lists.proofs.Readings.{read-clear}
 use Rattle.lists.proofs.RoundTrips as whole-list
 use Rattle.rules.specs.declared.Profile.{Profile}
 use Rattle.rules.specs.Profiles.{buildRefusals}
-use Rattle.rules.specs.Currents.{downAt, upAt, cable10mA, progDown, cable50mA, progCurrent, mayExceed, progAllowed}
+use Rattle.rules.specs.Currents.{downAt, upAt, above3A, fixedAllowed, progDown, cableInWhole50mA, progCurrent, mayExceed, progAllowed}
 use Rattle.rules.specs.Building.{wordFor, builtCount, builtWords}
 use Rattle.rules.specs.Checking.{checkRefusals, checkedOf}
-use Rattle.rules.proofs.Allowed.{at-20-V, above-3-A, up-to-3-A}
+use Rattle.rules.proofs.Allowed.{is-above-3-A, not-above-at-20-V, not-above-up-to, above-3-A, not-above-3-A}
 use Rattle.rules.proofs.Builds.{build-numbered, build-verdict, build-clear}
 use Rattle.rules.proofs.Checks.{check-verdict}
 use Rattle.rules.proofs.BuiltPasses.{shape-clear, check-clear, built-counts, built-fits}
@@ -37,12 +37,12 @@ use Rattle.demands.specs.PowerRules.{BuiltPasses, BuiltReturns, AllowedA
 -- ---- what is built
 
 -- a builder's success says that no refusal applies, and gives the list
-built-clear : (p : Profile) (b : Listing) → BuildAnswers p b → b .verdict ≡ success → NoneApply (buildRefusals p)
+pub built-clear : (p : Profile) (b : Listing) → BuildAnswers p b → b .verdict ≡ success → NoneApply (buildRefusals p)
 built-clear p b e s =
     none-applied (buildRefusals p) (build-numbered p)
     (ap (λ (v : Verdict). v .number) (sym (build-verdict p) ∙ sym (ap (λ (x : Listing). x .verdict) e) ∙ s))
 
-built-list : (p : Profile) (b : Listing) → BuildAnswers p b → b .verdict ≡ success → b .list ≡ builtWords p
+pub built-list : (p : Profile) (b : Listing) → BuildAnswers p b → b .verdict ≡ success → b .list ≡ builtWords p
 built-list p b e s = ap (λ (x : Listing). x .list) (e ∙ build-clear p (built-clear p b e s))
 
 pub built-passes : BuiltPasses
@@ -87,22 +87,30 @@ either-figure a b c = (
   (λ s. or-is (eqb a b) (eqb a c) .1 (⊎-elim (λ z. inl (eq-eqb a b z)) (λ z. inr (eq-eqb a c z)) s)),
 )
 
+-- where P is not above 3 A, and at 20 V, one row
+cut-roundings : (p : Profile) (volts a : ℕ) → above3A p volts ≡ false
+    → (fixedAllowed p volts a ≡ true) ↔ ((a ≡ min (downAt p volts) (p .cable .0)) ⊎ (a ≡ min (upAt p volts) (p .cable .0)))
+cut-roundings p volts a e = rw (not-above-3-A p volts a e) (either-figure a (min (downAt p volts) (p .cable .0)) (min (upAt p volts) (p .cable .0)))
+
 pub allowed-at-20-V : AllowedAt20V
-allowed-at-20-V p volts a e = rw (at-20-V p volts a e) (either-figure a (min (downAt p volts) (cable10mA p)) (min (upAt p volts) (cable10mA p)))
+allowed-at-20-V p volts a e = cut-roundings p volts a (not-above-at-20-V p volts e)
 
 pub allowed-past-3-A : AllowedPast3A
-allowed-past-3-A p volts a f h = rw (above-3-A p volts a f h) (
-  (λ e. let s = and-eq-true-iff (leb 300 a) (leb a (min (upAt p volts) (cable10mA p))) .0 e in (leb-true 300 a (s .0), leb-true a (min (upAt p volts) (cable10mA p)) (s .1))),
-  (λ s. and-eq-true-iff (leb 300 a) (leb a (min (upAt p volts) (cable10mA p))) .1 (le-leb 300 a (s .0), le-leb a (min (upAt p volts) (cable10mA p)) (s .1))),
-)
+allowed-past-3-A p volts a f h =
+    let low = min 300 (p .cable .0) in
+    let top = min (p .cable .0) (upAt p volts) in
+    rw (above-3-A p volts a (is-above-3-A p volts f h)) (
+      (λ e. let s = and-eq-true-iff (leb low a) (leb a top) .0 e in (leb-true low a (s .0), leb-true a top (s .1))),
+      (λ s. and-eq-true-iff (leb low a) (leb a top) .1 (le-leb low a (s .0), le-leb a top (s .1))),
+    )
 
 pub allowed-to-3-A : AllowedTo3A
-allowed-to-3-A p volts a f h = rw (up-to-3-A p volts a f h) (either-figure a (downAt p volts) (upAt p volts))
+allowed-to-3-A p volts a f h = cut-roundings p volts a (not-above-up-to p volts h)
 
 pub prog-allowed-exactly : ProgAllowedExactly
 unfolding progAllowed
 prog-allowed-exactly p volts a =
-    let top = min (progDown p volts) (cable50mA p) in
+    let top = min (progDown p volts) (cableInWhole50mA p) in
     let more = mayExceed (p .max .0) volts in
     let low = leb (progCurrent p volts) a in
     let high = leb a top in (

@@ -1,7 +1,7 @@
 -- Proves the claims of specs/SoundRows.antt: each call writes one sound row, and what is held together stays within the capacity.
 -- Assumes nothing.
 use mathlib.Core.Path.{_≡_, refl, sym, ap, _∙_, subst}
-use mathlib.Core.Bool.{Bool, true, false, not, _||_}
+use mathlib.Core.Bool.{Bool, true, false, not}
 use mathlib.Core.List.{List, [], _∷_, _++_, map}
 use Prim.Native.Nat.{ℕ, zero, suc, _+_, _-_, _*_, _≤_, _<_}
 use native.Mathlib.Nat.{le-min, lt-suc-self}
@@ -9,7 +9,7 @@ use native.Mathlib.Omega.{arith}
 use lib.Dec.{eqb}
 use lib.ListN.{length, length-set, length-map, set}
 use lib.Seq.{getD-set-same, getD-set-other}
-use borrow.Author.Tests.{eqb-true, eqb-false, ltb-false, le-ltb, not-false}
+use borrow.Author.Tests.{eqb-true, eqb-false, ltb-false, le-ltb}
 use Rattle.verdicts.specs.Refusals.{Refusal, refusal, eachPlace, firstOf, success, NoneApply}
 use Rattle.verdicts.proofs.First.{none-left, none-right, none-at, none-all, none-append, all-missed}
 use Rattle.steps.proofs.RangeLaws.{at-least, at-most}
@@ -23,7 +23,7 @@ use Rattle.ports.specs.RuleLists.{ruleList}
 use Rattle.ports.specs.Requests.{newHeld}
 use Rattle.ports.specs.Refusing.{tableRefusals, freshRows, setUpRefusals, faultRows, sumFault, soundRefusals, remainingRefusals, portRefusals, cannotAttach, attachRefusals, useRefusals, ownRefusals, noPowerNow, requestRefusals}
 use Rattle.ports.specs.Lending.{unlessRefused, setUpRows, attachRows, advertiseRows, requestRows, detachRows}
-use Rattle.ports.proofs.Sound.{SoundAttached, SoundLimits, limits-of, sound-empty, sound-attached, attached-sound, empty-sound, either-cable}
+use Rattle.ports.proofs.Sound.{SoundAttached, SoundLimits, limits-of, sound-empty, sound-attached, attached-sound, empty-sound}
 use Rattle.ports.proofs.RuleLists.{attached-from-15, attached-offerable}
 use Rattle.ports.proofs.Sums.{others-agree, one-apart}
 use Rattle.ports.proofs.Passing.{capacity-low, sound-at, sum-fits, rows-pass, port-at, own-fits, row-sound, use-port, attached, cable-kept}
@@ -112,15 +112,15 @@ module _ (capacity : ℕ) (t : List Row) (port : ℕ) where
       let fits = own-fits capacity t port x in
       attached-sound (offered capacity t port cable) (record {
         limits = record { max-low = l .max-low; max-high = l .max-high; pps-high = l .pps-high };
-        cable-is = either-cable cable (not-false (eqb cable 3 || eqb cable 5) good);
+        good-cable = good;
         held-low = held;
         held-high = le-min (held-to-max y s) (omega (arith, fits));
         present-high = offered-to-max capacity t port x;
       })
     where
       held-to-max : (y : Row) → soundRow y ≡ true → y .held .0 ≤ y .max .0
-      held-to-max y s = go (eqb (y .cable) 0) refl where
-        go : (b : Bool) → eqb (y .cable) 0 ≡ b → y .held .0 ≤ y .max .0
+      held-to-max y s = go (eqb (y .cable .0) 0) refl where
+        go : (b : Bool) → eqb (y .cable .0) 0 ≡ b → y .held .0 ≤ y .max .0
         go true e = let a = sound-empty y s e in omega (arith, a .held-15, a .limits .max-low)
         go false e = let a = sound-attached y s e in omega (arith, a .held-high, a .present-high)
 
@@ -141,7 +141,7 @@ module _ (capacity : ℕ) (t : List Row) (port : ℕ) where
   holding-sound y power a low high =
       attached-sound (holding y power) (record {
         limits = record { max-low = a .limits .max-low; max-high = a .limits .max-high; pps-high = a .limits .pps-high };
-        cable-is = a .cable-is;
+        good-cable = a .good-cable;
         held-low = low;
         held-high = high;
         present-high = a .present-high;
@@ -213,7 +213,7 @@ pub advertise-keeps : AdvertiseKeeps
 unfolding advertiseRows
 advertise-keeps capacity ys s port r zs e =
     subst (SoundRows capacity) (sym (e .1)) (unless (SoundRows capacity) ys (useRefusals capacity ys port) _ s (λ x.
-    offer-kept capacity ys port (portRow ys port .cable) (use-port capacity ys port x) (cable-kept capacity ys port x)))
+    offer-kept capacity ys port (portRow ys port .cable .0) (use-port capacity ys port x) (cable-kept capacity ys port x)))
 
 pub detach-keeps : DetachKeeps
 unfolding detachRows

@@ -153,8 +153,8 @@ never-21 = record {
   begin = λ count capacity r e. not-numbered (r .fault) (tableRefusals (capacity .0) count) (begin-refusals count capacity r e .0) refl;
   take-row = take-row-21;
   attach = λ s y capacity port cable r e other.
-      not-among (r .answer) (attachEndRefusals (capacity .0) s y port cable) (attach-decides s y capacity port cable r e .0)
-      (attach-without 21 refl (capacity .0) s (handed s other) port y cable);
+      not-among (r .answer) (attachEndRefusals (capacity .0) s y port (cable .0)) (attach-decides s y capacity port cable r e .0)
+      (attach-without 21 refl (capacity .0) s (handed s other) port y (cable .0));
   advertise = λ s y capacity port r e other.
       not-among (r .answer) (useEndRefusals (capacity .0) s y port) (advertise-decides s y capacity port r e .0)
       (use-without 21 refl (capacity .0) s (handed s other) port y);

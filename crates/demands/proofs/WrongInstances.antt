@@ -18,7 +18,7 @@ use Rattle.lists.specs.ObjectRules.{outOfBounds, over100W, mayFollow}
 use Rattle.lists.specs.Shape.{isFixed5V, hasFixed, avsDiffers}
 use Rattle.lists.specs.Seven.{sevenTo}
 use Rattle.rules.specs.declared.Profile.{Profile}
-use Rattle.rules.specs.Profiles.{halfWatts, buildRefusals}
+use Rattle.rules.specs.Profiles.{halfWatts, in10mA, buildRefusals}
 use Rattle.rules.specs.Tables.{baseSlots, progSlots}
 use Rattle.rules.specs.Currents.{builtCurrent, progCurrent}
 use Rattle.rules.specs.Building.{objectFor, builtOf}
@@ -52,7 +52,7 @@ set-up-then : SharesSetUp none-attached 200 success none-attached
 unfolding firstOf eachPlace emptied setUpAnswer setUpRows
 set-up-then = (refl, refl)
 
-attach-then : SharesAttach none-attached 200 1 5 (accepting list-130) one-attached
+attach-then : SharesAttach none-attached 200 1 500 (accepting list-130) one-attached
 unfolding firstOf eachPlace bits wordOf sevenTo downOf upOf baseSlots progSlots builtCurrent progCurrent objectFor builtOf together besides presentFor offering soundRow rulePps ruleProfile attachAnswer attachRows
 attach-then = (refl, refl)
 
@@ -74,10 +74,10 @@ first-calls = record { rows = one-attached; before = after-one; call = request-t
 abbrev knows : List Event → ℕ → Known
 knows es = known 200 none-attached es
 
-free-1 : CanAttach 2 (knows []) 1 5
+free-1 : CanAttach 2 (knows []) 1 500
 free-1 = record { from-1 = omega arith; to-count = omega arith; good-cable = refl; free = refl }
 
-free-2 : CanAttach 2 (knows both-calls) 2 5
+free-2 : CanAttach 2 (knows both-calls) 2 500
 unfolding changed
 free-2 = record { from-1 = omega arith; to-count = omega arith; good-cable = refl; free = refl }
 
@@ -97,12 +97,12 @@ held-15 : knows first-call 0 .figure ≡ 15
 unfolding changed
 held-15 = refl
 
-five-words : nextList 200 none-attached (knows []) 1 5 .count ≡ 5
+five-words : nextList 200 none-attached (knows []) 1 500 .count ≡ 5
 unfolding firstOf baseSlots progSlots builtOf together besides rulePps ruleProfile
 five-words = refl
 
 -- port 2 is left 70: 15 V at 2.33 A
-next-15-V : getD (nextList 200 none-attached (knows both-calls) 2 5 .words) 2 0 ≡ 0x0004B0E9
+next-15-V : getD (nextList 200 none-attached (knows both-calls) 2 500 .words) 2 0 ≡ 0x0004B0E9
 unfolding firstOf changed bits decodeOf wordOf sevenTo downOf upOf baseSlots progSlots builtCurrent progCurrent objectFor builtOf together besides rulePps ruleProfile powerOf heldFor
 next-15-V = refl
 
@@ -114,17 +114,17 @@ left-55 = refl
 
 pub no-old-list : NoOldList
 no-old-list r zs e q =
-    no-other-list 200 none-attached both-calls one-holds first-calls (attached 2 5 r) zs e free-2 list-130
+    no-other-list 200 none-attached both-calls one-holds first-calls (attached 2 500 r) zs e free-2 list-130
     (λ w. let z : _≡_ {A = ℕ} 0x0004B12C 0x0004B0E9 = ap (λ (l : Words). getD (l .words) 2 0) w ∙ next-15-V in absurd (omega (arith, z)))
     (ap (λ (l : Listing). l .list) q)
 
 pub no-old-rows : NoOldRows
 no-old-rows r zs e q =
-    attach-changes-row 200 none-attached both-calls one-holds first-calls 2 5 r zs e free-2 (ap (λ (xs : List Row). portRow xs 2) q)
+    attach-changes-row 200 none-attached both-calls one-holds first-calls 2 500 r zs e free-2 (ap (λ (xs : List Row). portRow xs 2) q)
 
 -- 36 W, the first of the worked cases
 abbrev listing : Profile
-listing = record { max = halfWatts 72; present = halfWatts 72; cable = 3; rounding = 0; pps = 1; flags = 0 }
+listing = record { max = halfWatts 72; present = halfWatts 72; cable = in10mA 300; rounding = 0; pps = 1; flags = 0 }
 
 listing-builds : NoneApply (buildRefusals listing)
 listing-builds = (refl, (refl, (refl, (refl, (refl, (refl, tt))))))
@@ -182,8 +182,8 @@ module _ (l : Library) (m : Meets l) where
 
   pub attach-accepts : ((ys : List Row) (capacity port cable : ℕ) → l .attach ys capacity port cable .0 .verdict ≡ success → ⊥) → ⊥
   attach-accepts f =
-      f none-attached 200 1 5
-      (nothing-refused 200 none-attached [] none-attached set-up-alone (attached 1 5 _) _ (m .attaches none-attached 200 1 5) free-1)
+      f none-attached 200 1 500
+      (nothing-refused 200 none-attached [] none-attached set-up-alone (attached 1 500 _) _ (m .attaches none-attached 200 1 500) free-1)
 
   pub request-accepts : ((ys : List Row) (capacity port word : ℕ) → l .request ys capacity port word .0 ≡ success → ⊥) → ⊥
   request-accepts f =
@@ -198,8 +198,8 @@ module _ (l : Library) (m : Meets l) where
   pub attach-past-5-V : ((ys : List Row) (capacity port cable : ℕ) → l .attach ys capacity port cable .0 .list .count ≡ 1) → ⊥
   attach-past-5-V f =
       not-one _
-      (attached-past-5-V 200 none-attached [] none-attached set-up-alone 1 5 _ _ (m .attaches none-attached 200 1 5) free-1 (omega arith))
-      (f none-attached 200 1 5)
+      (attached-past-5-V 200 none-attached [] none-attached set-up-alone 1 500 _ _ (m .attaches none-attached 200 1 500) free-1 (omega arith))
+      (f none-attached 200 1 500)
 
   pub advertise-past-5-V : ((ys : List Row) (capacity port : ℕ) → l .advertise ys capacity port .0 .list .count ≡ 1) → ⊥
   advertise-past-5-V f =
@@ -220,8 +220,8 @@ module _ (l : Library) (m : Meets l) where
 
   pub attach-changes : ((ys : List Row) (capacity port cable : ℕ) → l .attach ys capacity port cable .1 ≡ ys) → ⊥
   attach-changes f =
-      attach-changes-row 200 none-attached [] none-attached set-up-alone 1 5 _ _ (m .attaches none-attached 200 1 5) free-1
-      (ap (λ (xs : List Row). portRow xs 1) (f none-attached 200 1 5))
+      attach-changes-row 200 none-attached [] none-attached set-up-alone 1 500 _ _ (m .attaches none-attached 200 1 500) free-1
+      (ap (λ (xs : List Row). portRow xs 1) (f none-attached 200 1 500))
 
   pub detach-changes : ((ys : List Row) (capacity port : ℕ) → l .detach ys capacity port .1 ≡ ys) → ⊥
   detach-changes f =
@@ -230,17 +230,17 @@ module _ (l : Library) (m : Meets l) where
 
   -- ---- 5
 
-  pub no-same-list : l .attach one-holds 200 2 5 .0 ≡ accepting list-130 → ⊥
-  no-same-list = no-old-list _ _ (m .attaches one-holds 200 2 5)
+  pub no-same-list : l .attach one-holds 200 2 500 .0 ≡ accepting list-130 → ⊥
+  no-same-list = no-old-list _ _ (m .attaches one-holds 200 2 500)
 
-  pub no-mere-nod : l .attach one-holds 200 2 5 .1 ≡ one-holds → ⊥
-  no-mere-nod = no-old-rows _ _ (m .attaches one-holds 200 2 5)
+  pub no-mere-nod : l .attach one-holds 200 2 500 .1 ≡ one-holds → ⊥
+  no-mere-nod = no-old-rows _ _ (m .attaches one-holds 200 2 500)
 
   -- ---- 6
 
-  pub no-invented-count : (n : ℕ) → (n ≡ 5 → ⊥) → l .attach none-attached 200 1 5 .0 .list .count ≡ n → ⊥
+  pub no-invented-count : (n : ℕ) → (n ≡ 5 → ⊥) → l .attach none-attached 200 1 500 .0 .list .count ≡ n → ⊥
   no-invented-count n f =
-      no-other-count 200 none-attached [] none-attached set-up-alone (attached 1 5 _) _ (m .attaches none-attached 200 1 5) free-1 n
+      no-other-count 200 none-attached [] none-attached set-up-alone (attached 1 500 _) _ (m .attaches none-attached 200 1 500) free-1 n
       (λ e. f (e ∙ five-words))
 
   pub no-invented-power : (n : ℕ) → (n ≡ 55 → ⊥) → l .remaining one-holds 200 .power .0 ≡ n → ⊥

@@ -1,13 +1,12 @@
 -- Proves the claims of specs/WrongLibraries.antt, on lists from demands 1 and 2, on sharing from what calls are due after a run.
 -- Assumes nothing.
 use mathlib.Core.Path.{_≡_, refl, sym, ap, _∙_, subst}
-use mathlib.Core.Bool.{false, _||_, true≢false}
+use mathlib.Core.Bool.{false, true≢false}
 use mathlib.Core.List.{List, _∷_}
 use Prim.Native.Nat.{ℕ, _-_, _≤_, _<_}
 use native.Mathlib.Omega.{arith}
 use lib.Dec.{eqb}
 use lib.ListN.{length}
-use borrow.Author.Tests.{not-false}
 use Rattle.verdicts.specs.declared.Verdict.{Verdict}
 use Rattle.verdicts.specs.Refusals.{success, NoneApply}
 use Rattle.verdicts.proofs.First.{all-missed}
@@ -25,7 +24,7 @@ use Rattle.ports.specs.declared.Row.{Row}
 use Rattle.ports.specs.declared.RemainingPower.{RemainingPower}
 use Rattle.ports.specs.Rows.{portRow, together}
 use Rattle.ports.specs.Refusing.{setUpRefusals}
-use Rattle.ports.proofs.Sound.{either-cable, cable-not-0}
+use Rattle.ports.proofs.Sound.{cable-not-0}
 use Rattle.ports.proofs.Sums.{others-at-most}
 use Rattle.board.specs.Promises.{SharesAttach, SharesAdvertise, SharesRequest, SharesDetach, SharesRemaining}
 use Rattle.demands.specs.FlatContracts.{ArinShapeAnswers}
@@ -136,9 +135,6 @@ built-served l m p clear = record {
 
 -- ---- on sharing: `Step` at a library's own answers is what `Meets` says
 
-cable-in-use : (cable : ℕ) → badCable cable ≡ false → eqb cable 0 ≡ false
-cable-in-use cable e = cable-not-0 cable (either-cable cable (not-false (eqb cable 3 || eqb cable 5) e))
-
 module _ (capacity : ℕ) (start : List Row) (es : List Event) (ys : List Row) (run : Run capacity start es ys) where
   abbrev h : ℕ → Known
   h = known capacity start es
@@ -188,7 +184,7 @@ module _ (capacity : ℕ) (start : List Row) (es : List Event) (ys : List Row) (
       → 30 < maxOf start (port - 1) → 1 < r .list .count
   attached-past-5-V port cable r zs s a =
       told-past-5-V (attached port cable r) zs s port _ (told (r .verdict) port _ h (nothing-refused (attached port cable r) zs s a))
-      (a .from-1) (a .to-count) (cable-in-use cable (a .good-cable))
+      (a .from-1) (a .to-count) (cable-not-0 cable (a .good-cable))
 
   pub advertised-past-5-V : (port : ℕ) (r : Listing) (zs : List Row) → SharesAdvertise ys capacity port r zs → IsAttached count h port
       → 30 < maxOf start (port - 1) → 1 < r .list .count
@@ -209,7 +205,7 @@ module _ (capacity : ℕ) (start : List Row) (es : List Event) (ys : List Row) (
   attach-changes-row port cable r zs s a stays =
       let t = told (r .verdict) port _ h (nothing-refused (attached port cable r) zs s a) in
       let same = told-same (attached port cable r) zs s port _ t (a .from-1) (a .to-count) stays in
-      true≢false (sym (a .free) ∙ ap (λ (n : ℕ). eqb n 0) (sym (same .cable)) ∙ cable-in-use cable (a .good-cable))
+      true≢false (sym (a .free) ∙ ap (λ (n : ℕ). eqb n 0) (sym (same .cable)) ∙ cable-not-0 cable (a .good-cable))
 
   pub advertise-changes-row : (port : ℕ) (r : Listing) (zs : List Row) → SharesAdvertise ys capacity port r zs → IsAttached count h port
       → (smaller capacity count (maxOf start) h port ≡ h (port - 1) .present → ⊥) → portRow zs port ≡ portRow ys port → ⊥

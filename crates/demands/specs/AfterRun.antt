@@ -27,7 +27,7 @@ pub record AfterRun (capacity : ℕ) (start : List Row) (h : ℕ → Known) (ys 
   -- the figures together do not pass the capacity
   pub within-capacity : together (figures h) (length start) ≤ capacity
   -- the next list that attach or advertise gives is the rule list for M at the smaller of M and what the other figures leave of the capacity;
-  -- attach is accepted exactly for an empty port and a cable of 3 or 5 A, advertise exactly for an attached port
+  -- attach is accepted exactly for an empty port and a cable of 1 to 5 A, advertise exactly for an attached port
   pub attach-list : (port cable : ℕ) (r : Listing) (zs : List Row) → SharesAttach ys capacity port cable r zs
       → CanAttach (length start) h port cable
       → r ≡ record {

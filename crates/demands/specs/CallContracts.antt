@@ -202,8 +202,8 @@ WriteAnswers o r = write.Post tt (o, tt) r (o, tt)
 
 -- ---- rules
 
-abbrev pub BadCableAnswers : ℕ → Bool → Type 0
-BadCableAnswers amperes r = bad-cable.Post tt (amperes, tt) r (amperes, tt)
+abbrev pub BadCableAnswers : Ma10 → Bool → Type 0
+BadCableAnswers cable r = bad-cable.Post tt (cable, tt) r (cable, tt)
 
 abbrev pub DefaultAnswers : HalfWatts → Profiled → Type 0
 DefaultAnswers m r = default-profile.Post tt (m, tt) r (m, tt)
@@ -251,7 +251,7 @@ AllOrNoneAnswers s r = all-or-none.Post tt (s, tt) r (s, tt)
 abbrev pub PlaceOfAnswers : Standing → ℕ → ℕ → Type 0
 PlaceOfAnswers s port r = place-of.Post tt (s, (port, tt)) r (s, (port, tt))
 
-abbrev pub AttachDecides : Standing → Row → HalfWatts → ℕ → ℕ → Change → Type 0
+abbrev pub AttachDecides : Standing → Row → HalfWatts → ℕ → Ma10 → Change → Type 0
 AttachDecides s y capacity port cable r =
     attach.Post tt (s, (y, (capacity, (port, (cable, tt))))) r (s, (y, (capacity, (port, (cable, tt)))))
 

@@ -9,6 +9,7 @@ use mathlib.Core.List.{List, _∷_}
 use Prim.Native.Nat.{ℕ}
 use Rattle.verdicts.specs.Refusals.{Refusal, refusal, success}
 use Rattle.steps.specs.declared.HalfWatts.{HalfWatts}
+use Rattle.steps.specs.declared.Ma10.{Ma10}
 use Rattle.lists.specs.declared.Listing.{Listing}
 use Rattle.lists.specs.Writing.{noWords}
 use Rattle.rules.specs.Profiles.{halfWatts, buildRefusals}
@@ -47,8 +48,8 @@ Decides s r rs = Answers (r .answer) rs × ((r .answer ≡ success → ⊥) → 
 
 abbrev pub AttachDecidesFirst : Type 0
 AttachDecidesFirst =
-    (s : Standing) (y : Row) (capacity : HalfWatts) (port cable : ℕ) (r : Change) → AttachDecides s y capacity port cable r
-    → Decides s r (attachEndRefusals (capacity .0) s y port cable)
+    (s : Standing) (y : Row) (capacity : HalfWatts) (port : ℕ) (cable : Ma10) (r : Change) → AttachDecides s y capacity port cable r
+    → Decides s r (attachEndRefusals (capacity .0) s y port (cable .0))
 
 abbrev pub AdvertiseDecidesFirst : Type 0
 AdvertiseDecidesFirst =

@@ -15,7 +15,7 @@ use lib.ListN.{length, getD}
 use Rattle.verdicts.specs.declared.Verdict.{Verdict}
 use Rattle.lists.specs.declared.Words.{Words}
 use Rattle.lists.specs.Writing.{noWords}
-use Rattle.rules.specs.Profiles.{badCable, halfWatts}
+use Rattle.rules.specs.Profiles.{badCable, halfWatts, in10mA}
 use Rattle.ports.specs.declared.Row.{Row}
 use Rattle.ports.specs.Rows.{noRow, together, besides}
 use Rattle.ports.specs.RuleLists.{ruleList}
@@ -86,7 +86,7 @@ known capacity start (e ∷ es) = learnt capacity (length start) (maxOf start) (
 -- the rule list for M, PPS wanted, a cable and P
 abbrev pub listFor : ℕ → ℕ → ℕ → ℕ → Words
 listFor m wanted cable present =
-    ruleList (record { max = halfWatts m; pps = wanted; cable = cable; present = halfWatts present; held = halfWatts 0 })
+    ruleList (record { max = halfWatts m; pps = wanted; cable = in10mA cable; present = halfWatts present; held = halfWatts 0 })
 
 -- a port that is attached, by what is known
 pub record IsAttached (count : ℕ) (h : ℕ → Known) (port : ℕ) : Type 0 where

@@ -10,7 +10,7 @@ use Rattle.verdicts.specs.declared.Verdict.{Verdict}
 use Rattle.verdicts.specs.Refusals.{verdict, success}
 use Rattle.lists.specs.declared.Words.{Words}
 use Rattle.lists.specs.declared.Listing.{Listing}
-use Rattle.rules.specs.Profiles.{halfWatts, defaultOf}
+use Rattle.rules.specs.Profiles.{halfWatts, in10mA, defaultOf}
 use Rattle.rules.specs.Building.{builtOf}
 use Rattle.printed.specs.Ascii.{ascii}
 use Rattle.printed.specs.Printed.{printedOf}
@@ -55,7 +55,7 @@ success-with ws n = listed (record { verdict = success; list = words ws n })
 -- M, P, cable, rounding, PPS wanted; no flags
 abbrev pub built : ℕ → ℕ → ℕ → ℕ → ℕ → Answer
 built m p cable rounding pps =
-    listed (builtOf (record { max = halfWatts m; present = halfWatts p; cable = cable; rounding = rounding; pps = pps; flags = 0 }))
+    listed (builtOf (record { max = halfWatts m; present = halfWatts p; cable = in10mA cable; rounding = rounding; pps = pps; flags = 0 }))
 
 -- a case by M alone has the default profile
 abbrev pub alone : ℕ → Answer
@@ -68,7 +68,7 @@ asked position volts current =
 
 -- capacity 200, two rows of M 130: each port by its cable, its P and what it holds
 abbrev pub port : ℕ → ℕ → ℕ → Row
-port cable present held = record { max = halfWatts 130; pps = 0; cable = cable; present = halfWatts present; held = halfWatts held }
+port cable present held = record { max = halfWatts 130; pps = 0; cable = in10mA cable; present = halfWatts present; held = halfWatts held }
 
 abbrev pub two : Row → Row → List Row
 two a b = a ∷ b ∷ []
@@ -77,7 +77,7 @@ two a b = a ∷ b ∷ []
 abbrev pub fixed : ℕ → ℕ → ℕ
 fixed position current = position * 2 ^ 28 + current * 2 ^ 10 + current
 
--- the list at P 130 and at P 70, with a 5 A cable
+-- the list at P 130 and at P 70, with a cable of 500
 abbrev pub at-130 : Answer
 at-130 = success-with (0x0001912C ∷ 0x0002D12C ∷ 0x0004B12C ∷ 0x00064145 ∷ 0xE004B145 ∷ 0 ∷ 0 ∷ []) 5
 
@@ -117,15 +117,15 @@ abbrev pub table : List Case
 table =
     -- 36 W: the line that the listing program prints for a record of 8 bytes, and the list in it
     case
-    (printed (printedOf (0x48 ∷ 0x00 ∷ 0x48 ∷ 0x00 ∷ 0x03 ∷ 0x00 ∷ 0x01 ∷ 0x00 ∷ [])))
+    (printed (printedOf (0x48 ∷ 0x00 ∷ 0x48 ∷ 0x00 ∷ 0x1E ∷ 0x00 ∷ 0x01 ∷ 0x00 ∷ [])))
     (printed (ascii "0 6 0001912C 0002D12C 0004B0F0 E003C000 C8DC323C C9403230\n"))
-    ∷ case (built 72 72 3 0 1) (success-with (0x0001912C ∷ 0x0002D12C ∷ 0x0004B0F0 ∷ 0xE003C000 ∷ 0xC8DC323C ∷ 0xC9403230 ∷ 0 ∷ []) 6)
-    -- M 160, P 80, 5 A, rounded up, no PPS: currents 300, 300, 267, 200 and the AVS word E0042CC8
-    ∷ case (built 160 80 5 1 0) (success-with (0x0001912C ∷ 0x0002D12C ∷ 0x0004B10B ∷ 0x000640C8 ∷ 0xE0042CC8 ∷ 0 ∷ 0 ∷ []) 5)
+    ∷ case (built 72 72 300 0 1) (success-with (0x0001912C ∷ 0x0002D12C ∷ 0x0004B0F0 ∷ 0xE003C000 ∷ 0xC8DC323C ∷ 0xC9403230 ∷ 0 ∷ []) 6)
+    -- M 160, P 80, cable 500, rounded up, no PPS: currents 300, 300, 267, 200 and the AVS word E0042CC8
+    ∷ case (built 160 80 500 1 0) (success-with (0x0001912C ∷ 0x0002D12C ∷ 0x0004B10B ∷ 0x000640C8 ∷ 0xE0042CC8 ∷ 0 ∷ 0 ∷ []) 5)
     -- M 80 alone: currents 300, 300, 266; AVS 266 and 0
     ∷ case (alone 80) (success-with (0x0001912C ∷ 0x0002D12C ∷ 0x0004B10A ∷ 0xE0042800 ∷ 0 ∷ 0 ∷ 0 ∷ []) 4)
-    -- M 160, P 130, 5 A, rounded down: currents 300, 300, 300, 325; AVS 300 and 325. This is the list L
-    ∷ case (built 160 130 5 0 0) (success-with (0x0001912C ∷ 0x0002D12C ∷ 0x0004B12C ∷ 0x00064145 ∷ 0xE004B145 ∷ 0 ∷ 0 ∷ []) 5)
+    -- M 160, P 130, cable 500, rounded down: currents 300, 300, 300, 325; AVS 300 and 325. This is the list L
+    ∷ case (built 160 130 500 0 0) (success-with (0x0001912C ∷ 0x0002D12C ∷ 0x0004B12C ∷ 0x00064145 ∷ 0xE004B145 ∷ 0 ∷ 0 ∷ []) 5)
     -- M 30 has 5 V alone; M 31 has 9 V too, at 172
     ∷ case (alone 30) (success-with (0x0001912C ∷ 0 ∷ 0 ∷ 0 ∷ 0 ∷ 0 ∷ 0 ∷ []) 1)
     ∷ case (alone 31) (success-with (0x0001912C ∷ 0x0002D0AC ∷ 0 ∷ 0 ∷ 0 ∷ 0 ∷ 0 ∷ []) 2)
@@ -142,33 +142,33 @@ table =
     ∷ case (asked 5 602 65) (judged (verdict 23 0))
     ∷ case (asked 5 356 65) (judged (verdict 22 0))
     ∷ case (asked 6 600 65) (judged (verdict 20 0))
-    -- capacity 200, two rows of M 130, cables of 5 A: set-up, whatever the rows held
+    -- capacity 200, two rows of M 130, cables of 500: set-up, whatever the rows held
     ∷ case (judged (setUpAnswer 200 (two (port 1 2 3) (port 4 5 6)))) (judged success)
     ∷ case (left (setUpRows 200 (two (port 1 2 3) (port 4 5 6)))) (left (two (port 0 0 15) (port 0 0 15)))
     -- port 1 attaches (P 130)
-    ∷ case (listed (attachAnswer 200 (two (port 0 0 15) (port 0 0 15)) 1 5)) at-130
-    ∷ case (left (attachRows 200 (two (port 0 0 15) (port 0 0 15)) 1 5)) (left (two (port 5 130 15) (port 0 0 15)))
+    ∷ case (listed (attachAnswer 200 (two (port 0 0 15) (port 0 0 15)) 1 500)) at-130
+    ∷ case (left (attachRows 200 (two (port 0 0 15) (port 0 0 15)) 1 500)) (left (two (port 500 130 15) (port 0 0 15)))
     -- and takes 20 V at 3.25 A: it holds 130
-    ∷ case (judged (requestAnswer 200 (two (port 5 130 15) (port 0 0 15)) 1 (fixed 4 325))) (judged success)
-    ∷ case (left (requestRows 200 (two (port 5 130 15) (port 0 0 15)) 1 (fixed 4 325))) (left (two (port 5 130 130) (port 0 0 15)))
+    ∷ case (judged (requestAnswer 200 (two (port 500 130 15) (port 0 0 15)) 1 (fixed 4 325))) (judged success)
+    ∷ case (left (requestRows 200 (two (port 500 130 15) (port 0 0 15)) 1 (fixed 4 325))) (left (two (port 500 130 130) (port 0 0 15)))
     -- port 2 attaches and is left P 70: currents 300, 300, 233, 175
-    ∷ case (listed (attachAnswer 200 (two (port 5 130 130) (port 0 0 15)) 2 5)) at-70
-    ∷ case (left (attachRows 200 (two (port 5 130 130) (port 0 0 15)) 2 5)) (left (two (port 5 130 130) (port 5 70 15)))
+    ∷ case (listed (attachAnswer 200 (two (port 500 130 130) (port 0 0 15)) 2 500)) at-70
+    ∷ case (left (attachRows 200 (two (port 500 130 130) (port 0 0 15)) 2 500)) (left (two (port 500 130 130) (port 500 70 15)))
     -- now port 1 takes 9 V at 2 A, and holds 36
-    ∷ case (judged (requestAnswer 200 (two (port 5 130 130) (port 5 70 15)) 1 (fixed 2 200))) (judged success)
-    ∷ case (left (requestRows 200 (two (port 5 130 130) (port 5 70 15)) 1 (fixed 2 200))) (left (two (port 5 130 36) (port 5 70 15)))
+    ∷ case (judged (requestAnswer 200 (two (port 500 130 130) (port 500 70 15)) 1 (fixed 2 200))) (judged success)
+    ∷ case (left (requestRows 200 (two (port 500 130 130) (port 500 70 15)) 1 (fixed 2 200))) (left (two (port 500 130 36) (port 500 70 15)))
     -- so port 2 is advertised P 130
-    ∷ case (listed (advertiseAnswer 200 (two (port 5 130 36) (port 5 70 15)) 2)) at-130
-    ∷ case (left (advertiseRows 200 (two (port 5 130 36) (port 5 70 15)) 2)) (left (two (port 5 130 36) (port 5 130 15)))
+    ∷ case (listed (advertiseAnswer 200 (two (port 500 130 36) (port 500 70 15)) 2)) at-130
+    ∷ case (left (advertiseRows 200 (two (port 500 130 36) (port 500 70 15)) 2)) (left (two (port 500 130 36) (port 500 130 15)))
     -- and takes 20 V at 3.25 A
-    ∷ case (judged (requestAnswer 200 (two (port 5 130 36) (port 5 130 15)) 2 (fixed 4 325))) (judged success)
-    ∷ case (left (requestRows 200 (two (port 5 130 36) (port 5 130 15)) 2 (fixed 4 325))) (left (two (port 5 130 36) (port 5 130 130)))
+    ∷ case (judged (requestAnswer 200 (two (port 500 130 36) (port 500 130 15)) 2 (fixed 4 325))) (judged success)
+    ∷ case (left (requestRows 200 (two (port 500 130 36) (port 500 130 15)) 2 (fixed 4 325))) (left (two (port 500 130 36) (port 500 130 130)))
     -- port 1 asks for 20 V at 3.25 A again: the power is gone (36)
-    ∷ case (judged (requestAnswer 200 (two (port 5 130 36) (port 5 130 130)) 1 (fixed 4 325))) (judged (verdict 36 1))
-    ∷ case (left (requestRows 200 (two (port 5 130 36) (port 5 130 130)) 1 (fixed 4 325))) (left (two (port 5 130 36) (port 5 130 130)))
+    ∷ case (judged (requestAnswer 200 (two (port 500 130 36) (port 500 130 130)) 1 (fixed 4 325))) (judged (verdict 36 1))
+    ∷ case (left (requestRows 200 (two (port 500 130 36) (port 500 130 130)) 1 (fixed 4 325))) (left (two (port 500 130 36) (port 500 130 130)))
     -- 9 V at 3 A it gets, and holds 54
-    ∷ case (judged (requestAnswer 200 (two (port 5 130 36) (port 5 130 130)) 1 (fixed 2 300))) (judged success)
-    ∷ case (left (requestRows 200 (two (port 5 130 36) (port 5 130 130)) 1 (fixed 2 300))) (left (two (port 5 130 54) (port 5 130 130)))
+    ∷ case (judged (requestAnswer 200 (two (port 500 130 36) (port 500 130 130)) 1 (fixed 2 300))) (judged success)
+    ∷ case (left (requestRows 200 (two (port 500 130 36) (port 500 130 130)) 1 (fixed 2 300))) (left (two (port 500 130 54) (port 500 130 130)))
     -- a Source_Capabilities with the six words of 36 W, and a Request: read, and written into a buffer of 30 bytes
     ∷ case (message (messageReadOf sent-bytes)) (is-message sent)
     ∷ case (wrote (writtenOf 30 sent)) (is-length 26)

@@ -12,7 +12,7 @@ use Rattle.ports.specs.declared.Row.{Row}
 use Rattle.ports.specs.declared.RemainingPower.{RemainingPower}
 use Rattle.board.specs.Promises.{SharesSetUp, SharesAttach, SharesAdvertise, SharesRequest, SharesDetach, SharesRemaining}
 
--- a call with its arguments, good or bad, and its answer. The first number is the port, which counts from 1; attach has the cable in amperes
+-- a call with its arguments, good or bad, and its answer. The first number is the port, which counts from 1; attach has the cable in 10 mA
 -- after it, request the request word
 pub data Event : Type 0 where
   attached : ℕ → ℕ → Listing → Event

@@ -98,7 +98,7 @@ pub record Never21 : Type 0 where
   pub begin : (count : ℕ) (capacity : HalfWatts) (r : Standing) → BeginAnswers count capacity r → Not21 (r .fault .number)
   pub take-row : (s : Standing) (y : Row) (place : ℕ) (fresh : Bool) (r : Standing) → TakeRowAnswers s y place fresh r
       → Not21 (s .fault .number) → Not21 (r .fault .number)
-  pub attach : (s : Standing) (y : Row) (capacity : HalfWatts) (port cable : ℕ) (r : Change) → AttachDecides s y capacity port cable r
+  pub attach : (s : Standing) (y : Row) (capacity : HalfWatts) (port : ℕ) (cable : Ma10) (r : Change) → AttachDecides s y capacity port cable r
       → Not21 (s .fault .number) → Not21 (r .answer .number)
   pub advertise : (s : Standing) (y : Row) (capacity : HalfWatts) (port : ℕ) (r : Change) → AdvertiseDecides s y capacity port r
       → Not21 (s .fault .number) → Not21 (r .answer .number)

@@ -24,16 +24,16 @@ abbrev pub none-attached : List Row
 none-attached = two (port 0 0 15) (port 0 0 15)
 
 abbrev pub one-attached : List Row
-one-attached = two (port 5 130 15) (port 0 0 15)
+one-attached = two (port 500 130 15) (port 0 0 15)
 
 abbrev pub one-holds : List Row
-one-holds = two (port 5 130 130) (port 0 0 15)
+one-holds = two (port 500 130 130) (port 0 0 15)
 
 abbrev pub list-130 : Words
 list-130 = record { words = 0x0001912C ∷ 0x0002D12C ∷ 0x0004B12C ∷ 0x00064145 ∷ 0xE004B145 ∷ 0 ∷ 0 ∷ []; count = 5 }
 
 abbrev pub first-call : List Event
-first-call = attached 1 5 (accepting list-130) ∷ []
+first-call = attached 1 500 (accepting list-130) ∷ []
 
 abbrev pub both-calls : List Event
 both-calls = requested 1 (fixed 4 325) success ∷ first-call
@@ -77,12 +77,12 @@ pub data ChangesNothing (l : Library) : Type 0 where
 
 -- 5: after the run above, port 2 is attached with a nod: with the list that port 1 got, or with rows that stay
 pub data OnlyNods (l : Library) : Type 0 where
-  same-list : l .attach one-holds 200 2 5 .0 ≡ accepting list-130 → OnlyNods l
-  same-rows : l .attach one-holds 200 2 5 .1 ≡ one-holds → OnlyNods l
+  same-list : l .attach one-holds 200 2 500 .0 ≡ accepting list-130 → OnlyNods l
+  same-rows : l .attach one-holds 200 2 500 .1 ≡ one-holds → OnlyNods l
 
 -- 6: the list of port 1 has a count other than 5, or the power that remains after the run is other than 55
 pub data Invents (l : Library) : Type 0 where
-  a-count : (n : ℕ) → (n ≡ 5 → ⊥) → l .attach none-attached 200 1 5 .0 .list .count ≡ n → Invents l
+  a-count : (n : ℕ) → (n ≡ 5 → ⊥) → l .attach none-attached 200 1 500 .0 .list .count ≡ n → Invents l
   a-power : (n : ℕ) → (n ≡ 55 → ⊥) → l .remaining one-holds 200 .power .0 ≡ n → Invents l
 
 pub data Wrong (l : Library) : Type 0 where
@@ -99,7 +99,7 @@ NoWrongLibrary = (l : Library) → Meets l → Wrong l → ⊥
 -- ---- 5, for a library with any memory of its own: no answer to the next call that its contract allows is a nod
 
 abbrev pub NoOldList : Type 0
-NoOldList = (r : Listing) (zs : List Row) → SharesAttach one-holds 200 2 5 r zs → r ≡ accepting list-130 → ⊥
+NoOldList = (r : Listing) (zs : List Row) → SharesAttach one-holds 200 2 500 r zs → r ≡ accepting list-130 → ⊥
 
 abbrev pub NoOldRows : Type 0
-NoOldRows = (r : Listing) (zs : List Row) → SharesAttach one-holds 200 2 5 r zs → zs ≡ one-holds → ⊥
+NoOldRows = (r : Listing) (zs : List Row) → SharesAttach one-holds 200 2 500 r zs → zs ≡ one-holds → ⊥

@@ -1,13 +1,12 @@
 -- A port that is offered power (STATEMENT, "Calls": attach and advertise answer with "its rule list"): its list can be built.
 -- Assumes nothing.
 use mathlib.Core.Path.{_≡_, refl, ap}
-use mathlib.Core.Bool.{Bool, true, false, _||_}
+use mathlib.Core.Bool.{Bool, true, false}
 use mathlib.Core.List.{List}
 use Prim.Native.Nat.{ℕ, _≤_}
 use native.Mathlib.Nat.{min-le-left, le-min}
 use native.Mathlib.Omega.{arith}
 use lib.Dec.{eqb}
-use borrow.Author.Tests.{not-false}
 use Rattle.verdicts.specs.declared.Verdict.{Verdict}
 use Rattle.verdicts.specs.Refusals.{success, NoneApply}
 use Rattle.lists.specs.declared.Listing.{Listing}
@@ -18,14 +17,14 @@ use Rattle.ports.specs.Rows.{portRow, leftFor, presentFor, offering, off
 use Rattle.ports.specs.Soundness.{soundRow}
 use Rattle.ports.specs.RuleLists.{ruleProfile, ruleList, Offerable}
 use Rattle.ports.specs.Refusing.{portRefusals}
-use Rattle.ports.proofs.Sound.{sound-empty, sound-attached, limits-of, either-cable}
+use Rattle.ports.proofs.Sound.{sound-empty, sound-attached, limits-of}
 use Rattle.ports.proofs.RuleLists.{rule-list-built}
 use Rattle.ports.proofs.Passing.{row-sound, own-fits}
 
 -- every row of sound rows holds at least 15
 pub held-from-15 : (y : Row) → soundRow y ≡ true → 15 ≤ y .held .0
-held-from-15 y s = go (eqb (y .cable) 0) refl where
-  go : (b : Bool) → eqb (y .cable) 0 ≡ b → 15 ≤ y .held .0
+held-from-15 y s = go (eqb (y .cable .0) 0) refl where
+  go : (b : Bool) → eqb (y .cable .0) 0 ≡ b → 15 ≤ y .held .0
   go true e = omega (arith, sound-empty y s e .held-15)
   go false e = sound-attached y s e .held-low
 
@@ -52,7 +51,7 @@ module _ (capacity : ℕ) (ys : List Row) (port : ℕ) (x : NoneApply (portRefus
       max-high = limits-of (portRow ys port) (row-sound capacity ys port x) .max-high;
       present-low = let a = offered-from-15 in omega (arith, a);
       present-high = offered-to-max;
-      cable-is = either-cable cable (not-false (eqb cable 3 || eqb cable 5) good);
+      good-cable = good;
     }
 
     pub list-offered : builtOf (ruleProfile (offered capacity ys port cable)) ≡ record {

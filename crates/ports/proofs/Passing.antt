@@ -18,7 +18,7 @@ use Rattle.ports.specs.Rows.{rowOf, portRow, allHeld, othersHeld, heldAt
 use Rattle.ports.specs.Soundness.{soundRow}
 use Rattle.ports.specs.RuleLists.{ruleList}
 use Rattle.ports.specs.Refusing.{tableRefusals, freshRows, setUpRefusals, faultRows, sumFault, soundRefusals, remainingRefusals, noSuchPort, portRefusals, cannotAttach, attachRefusals, notAttached, useRefusals, noPowerNow, ownRefusals, requestRefusals}
-use Rattle.ports.proofs.Sound.{SoundAttached, sound-attached, cable-good}
+use Rattle.ports.proofs.Sound.{SoundAttached, sound-attached}
 use Rattle.ports.proofs.Sums.{one-apart, others-at-most}
 
 module _ (capacity : ℕ) (ys : List Row) where
@@ -113,13 +113,13 @@ module _ (capacity : ℕ) (ys : List Row) where
     pub use-port : NoneApply (portRefusals capacity ys port)
     use-port = none-left (portRefusals capacity ys port) (notAttached (portRow ys port) port) x
 
-    pub in-use : eqb (portRow ys port .cable) 0 ≡ false
+    pub in-use : eqb (portRow ys port .cable .0) 0 ≡ false
     in-use =
-        not-true (eqb (portRow ys port .cable) 0)
-        (not-false (not (eqb (portRow ys port .cable) 0)) (none-right (portRefusals capacity ys port) (notAttached (portRow ys port) port) x .0))
+        not-true (eqb (portRow ys port .cable .0) 0)
+        (not-false (not (eqb (portRow ys port .cable .0) 0)) (none-right (portRefusals capacity ys port) (notAttached (portRow ys port) port) x .0))
 
     pub attached : SoundAttached (portRow ys port)
     attached = sound-attached (portRow ys port) (row-sound port use-port) in-use
 
-    pub cable-kept : badCable (portRow ys port .cable) ≡ false
-    cable-kept = ap not (cable-good (portRow ys port .cable) (attached .cable-is))
+    pub cable-kept : badCable (portRow ys port .cable .0) ≡ false
+    cable-kept = attached .good-cable

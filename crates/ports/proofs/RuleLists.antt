@@ -18,7 +18,7 @@ use Rattle.rules.proofs.Builds.{build-clear}
 use Rattle.rules.proofs.BuiltPasses.{shape-clear}
 use Rattle.ports.specs.declared.Row.{Row}
 use Rattle.ports.specs.RuleLists.{rulePps, ruleProfile, ruleList, Offerable}
-use Rattle.ports.proofs.Sound.{SoundAttached, cable-good}
+use Rattle.ports.proofs.Sound.{SoundAttached}
 
 -- an attached port of sound rows is one, with a P of at least 15
 pub attached-from-15 : (y : Row) → SoundAttached y → 15 ≤ y .present .0
@@ -29,7 +29,7 @@ attached-offerable y a = record {
   max-high = a .limits .max-high;
   present-low = omega (arith, a .held-low, a .held-high);
   present-high = a .present-high;
-  cable-is = a .cable-is;
+  good-cable = a .good-cable;
 }
 
 module _ (y : Row) (o : Offerable y) where
@@ -40,7 +40,7 @@ module _ (y : Row) (o : Offerable y) where
     inside 1 200 (y .max .0) (omega (arith, o .present-low, o .present-high)) (o .max-high),
     (
       inside 1 (y .max .0) (y .present .0) (o .present-low) (o .present-high),
-      (ap not (cable-good (y .cable) (o .cable-is)), (pps-0-or-1 (eqb (y .pps) 1 && eqb (y .present .0) (y .max .0)), (refl, (at-maximum, tt)))),
+      (o .good-cable, (pps-0-or-1 (eqb (y .pps) 1 && eqb (y .present .0) (y .max .0)), (refl, (at-maximum, tt)))),
     ),
   ) where
     pps-0-or-1 : (b : Bool) → (ltb 1 0 || ltb 1 (cond b 1 0)) ≡ false

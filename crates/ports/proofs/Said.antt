@@ -138,9 +138,9 @@ module _ (ys : List Row) (capacity : ℕ) where
         let rs = useRefusals capacity ys port in
         let y = offeredAgain capacity ys port in
         let c = advertiseChange capacity s own port in
-        let decided = port-said (noChange s) (λ z n. notAttached z port) (λ z n. changing port (offering z (presentOf z n) (z .cable))) in (
+        let decided = port-said (noChange s) (λ z n. notAttached z port) (λ z n. changing port (offering z (presentOf z n) (z .cable .0))) in (
           list-said c rs y decided (use-numbered capacity ys port) (λ x. list-offered capacity ys port (use-port capacity ys port x)
-              (portRow ys port .cable) (cable-kept capacity ys port x)),
+              (portRow ys port .cable .0) (cable-kept capacity ys port x)),
           rows-said c rs y decided,
         )
 

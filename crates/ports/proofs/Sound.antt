@@ -1,13 +1,14 @@
 -- What a sound row says, and back (STATEMENT, "Rows").
 -- Assumes nothing.
 use mathlib.Core.Path.{_≡_, refl, sym, ap, _∙_}
-use mathlib.Core.Bool.{Bool, true, false, cond, _&&_, _||_, and-eq-true-iff}
-use mathlib.Core.Logic.{_⊎_, inl, inr, ⊎-elim}
+use mathlib.Core.Bool.{Bool, true, false, not, cond, _&&_, and-eq-true-iff}
 use Prim.Native.Nat.{ℕ, _≤_}
 use native.Mathlib.Omega.{arith}
 use lib.Dec.{leb, eqb}
-use borrow.Author.Tests.{leb-true, le-leb, eqb-true, eq-eqb}
+use borrow.Author.Tests.{leb-true, le-leb, eqb-true, eq-eqb, ne-eqb, not-false}
 use Rattle.steps.specs.Ranges.{within}
+use Rattle.steps.proofs.RangeLaws.{at-least}
+use Rattle.rules.specs.Profiles.{badCable}
 use Rattle.ports.specs.declared.Row.{Row}
 use Rattle.ports.specs.Soundness.{soundEmpty, soundAttached, soundRow}
 
@@ -20,7 +21,7 @@ pub record SoundLimits (y : Row) : Type 0 where
 -- the column "attached port"
 pub record SoundAttached (y : Row) : Type 0 where
   pub limits : SoundLimits y
-  pub cable-is : (y .cable ≡ 3) ⊎ (y .cable ≡ 5)
+  pub good-cable : badCable (y .cable .0) ≡ false
   pub held-low : 15 ≤ y .held .0
   pub held-high : y .held .0 ≤ y .present .0
   pub present-high : y .present .0 ≤ y .max .0
@@ -28,25 +29,17 @@ pub record SoundAttached (y : Row) : Type 0 where
 -- the column "empty port"
 pub record SoundEmpty (y : Row) : Type 0 where
   pub limits : SoundLimits y
-  pub no-cable : y .cable ≡ 0
+  pub no-cable : y .cable .0 ≡ 0
   pub no-present : y .present .0 ≡ 0
   pub held-15 : y .held .0 ≡ 15
 
-pub either-cable : (c : ℕ) → (eqb c 3 || eqb c 5) ≡ true → (c ≡ 3) ⊎ (c ≡ 5)
-either-cable c t = go (eqb c 3) refl t where
-  go : (b : Bool) → eqb c 3 ≡ b → (b || eqb c 5) ≡ true → (c ≡ 3) ⊎ (c ≡ 5)
-  go true e t = inl (eqb-true c 3 e)
-  go false e t = inr (eqb-true c 5 t)
-
-pub cable-good : (c : ℕ) → (c ≡ 3) ⊎ (c ≡ 5) → (eqb c 3 || eqb c 5) ≡ true
-cable-good c s = ⊎-elim (λ e. ap (λ (n : ℕ). eqb n 3 || eqb n 5) e) (λ e. ap (λ (n : ℕ). eqb n 3 || eqb n 5) e) s
-
-pub cable-not-0 : (c : ℕ) → (c ≡ 3) ⊎ (c ≡ 5) → eqb c 0 ≡ false
-cable-not-0 c s = ⊎-elim (λ e. ap (λ (n : ℕ). eqb n 0) e) (λ e. ap (λ (n : ℕ). eqb n 0) e) s
+-- a cable that is not refused is in use
+pub cable-not-0 : (cable : ℕ) → badCable cable ≡ false → eqb cable 0 ≡ false
+cable-not-0 cable good = ne-eqb cable 0 (λ e. omega (arith, at-least 100 500 cable good))
 
 module _ (y : Row) where
   abbrev port : Bool
-  port = cond (eqb (y .cable) 0) (soundEmpty y) (soundAttached y)
+  port = cond (eqb (y .cable .0) 0) (soundEmpty y) (soundAttached y)
 
   pub limits-of : soundRow y ≡ true → SoundLimits y
   unfolding soundRow
@@ -71,18 +64,18 @@ module _ (y : Row) where
         and-eq-true-iff (leb (y .pps) 1) port .1 (le-leb (y .pps) 1 (l .pps-high), p),
       )
 
-  pub sound-attached : soundRow y ≡ true → eqb (y .cable) 0 ≡ false → SoundAttached y
+  pub sound-attached : soundRow y ≡ true → eqb (y .cable .0) 0 ≡ false → SoundAttached y
   sound-attached s e =
       let t : soundAttached y ≡ true = sym (ap (λ (b : Bool). cond b (soundEmpty y) (soundAttached y)) e) ∙ port-of s in
       let held = leb 15 (y .held .0) in
       let below = leb (y .held .0) (y .present .0) in
       let within-max = leb (y .present .0) (y .max .0) in
-      let a = and-eq-true-iff (eqb (y .cable) 3 || eqb (y .cable) 5) (held && (below && within-max)) .0 t in
+      let a = and-eq-true-iff (within 100 500 (y .cable .0)) (held && (below && within-max)) .0 t in
       let b = and-eq-true-iff held (below && within-max) .0 (a .1) in
       let c = and-eq-true-iff below within-max .0 (b .1) in
       record {
         limits = limits-of s;
-        cable-is = either-cable (y .cable) (a .0);
+        good-cable = ap not (a .0);
         held-low = leb-true 15 (y .held .0) (b .0);
         held-high = leb-true (y .held .0) (y .present .0) (c .0);
         present-high = leb-true (y .present .0) (y .max .0) (c .1);
@@ -92,21 +85,21 @@ module _ (y : Row) where
   pub attached-sound : SoundAttached y → soundRow y ≡ true
   attached-sound a =
       of-both (a .limits)
-      (ap (λ (b : Bool). cond b (soundEmpty y) (soundAttached y)) (cable-not-0 (y .cable) (a .cable-is))
+      (ap (λ (b : Bool). cond b (soundEmpty y) (soundAttached y)) (cable-not-0 (y .cable .0) (a .good-cable))
       ∙ rw (
-        cable-good (y .cable) (a .cable-is),
+        not-false (within 100 500 (y .cable .0)) (a .good-cable),
         le-leb 15 (y .held .0) (a .held-low),
         le-leb (y .held .0) (y .present .0) (a .held-high),
         le-leb (y .present .0) (y .max .0) (a .present-high),
       ))
 
-  pub sound-empty : soundRow y ≡ true → eqb (y .cable) 0 ≡ true → SoundEmpty y
+  pub sound-empty : soundRow y ≡ true → eqb (y .cable .0) 0 ≡ true → SoundEmpty y
   sound-empty s e =
       let t : soundEmpty y ≡ true = sym (ap (λ (b : Bool). cond b (soundEmpty y) (soundAttached y)) e) ∙ port-of s in
       let a = and-eq-true-iff (eqb (y .present .0) 0) (eqb (y .held .0) 15) .0 t in
       record {
         limits = limits-of s;
-        no-cable = eqb-true (y .cable) 0 e;
+        no-cable = eqb-true (y .cable .0) 0 e;
         no-present = eqb-true (y .present .0) 0 (a .0);
         held-15 = eqb-true (y .held .0) 15 (a .1);
       }
@@ -114,13 +107,13 @@ module _ (y : Row) where
   pub empty-sound : SoundEmpty y → soundRow y ≡ true
   empty-sound a =
       of-both (a .limits)
-      (ap (λ (b : Bool). cond b (soundEmpty y) (soundAttached y)) (eq-eqb (y .cable) 0 (a .no-cable))
+      (ap (λ (b : Bool). cond b (soundEmpty y) (soundAttached y)) (eq-eqb (y .cable .0) 0 (a .no-cable))
       ∙ rw (eq-eqb (y .present .0) 0 (a .no-present), eq-eqb (y .held .0) 15 (a .held-15)))
 
 -- every sound row holds at most 200
 pub held-to-200 : (y : Row) → soundRow y ≡ true → y .held .0 ≤ 200
-held-to-200 y s = go (eqb (y .cable) 0) refl where
-  go : (b : Bool) → eqb (y .cable) 0 ≡ b → y .held .0 ≤ 200
+held-to-200 y s = go (eqb (y .cable .0) 0) refl where
+  go : (b : Bool) → eqb (y .cable .0) 0 ≡ b → y .held .0 ≤ 200
   go true e = omega (arith, sound-empty y s e .held-15)
   go false e =
       let a = sound-attached y s e in

@@ -1,7 +1,7 @@
 -- Whether a row is sound, by the facts that a branch gives.
 -- Assumes nothing.
 use mathlib.Core.Path.{_≡_, refl, ap, _∙_}
-use mathlib.Core.Bool.{Bool, true, false, _&&_, _||_, and-true, and-false}
+use mathlib.Core.Bool.{Bool, true, false, _&&_, and-true, and-false}
 use Prim.Native.Nat.{_≤_, _<_}
 use native.Mathlib.Omega.{arith}
 use lib.Dec.{leb, eqb}
@@ -37,12 +37,12 @@ module _ (y : Row) where
   not-attached : soundAttached y ≡ false → withM (soundAttached y) ≡ false
   not-attached e = ap withM e ∙ and-false (within 15 200 (y .max .0))
 
-  pub cable-bad : badCable (y .cable) ≡ true → withM (soundAttached y) ≡ false
-  cable-bad e = not-attached (rw (not-true (eqb (y .cable) 3 || eqb (y .cable) 5) e) refl)
+  pub cable-bad : badCable (y .cable .0) ≡ true → withM (soundAttached y) ≡ false
+  cable-bad e = not-attached (rw (not-true (within 100 500 (y .cable .0)) e) refl)
 
-  module _ (c : badCable (y .cable) ≡ false) where
-    abbrev cable-fits : (eqb (y .cable) 3 || eqb (y .cable) 5) ≡ true
-    cable-fits = not-false (eqb (y .cable) 3 || eqb (y .cable) 5) c
+  module _ (c : badCable (y .cable .0) ≡ false) where
+    abbrev cable-fits : within 100 500 (y .cable .0) ≡ true
+    cable-fits = not-false (within 100 500 (y .cable .0)) c
 
     pub held-low : y .held .0 < 15 → withM (soundAttached y) ≡ false
     held-low h = not-attached (rw (cable-fits, lt-leb 15 (y .held .0) h) refl)
@@ -78,10 +78,10 @@ module _ (y : Row) where
   pps-high h = rw (lt-leb (y .pps) 1 h) (and-false (within 15 200 (y .max .0)))
 
   module _ (p : y .pps ≤ 1) where
-    pub by-empty : y .cable ≡ 0 → soundRow y ≡ withM (soundEmpty y)
+    pub by-empty : y .cable .0 ≡ 0 → soundRow y ≡ withM (soundEmpty y)
     unfolding soundRow
-    by-empty e = rw (le-leb (y .pps) 1 p, eq-eqb (y .cable) 0 e) refl
+    by-empty e = rw (le-leb (y .pps) 1 p, eq-eqb (y .cable .0) 0 e) refl
 
-    pub by-attached : (y .cable ≡ 0 → ⊥) → soundRow y ≡ withM (soundAttached y)
+    pub by-attached : (y .cable .0 ≡ 0 → ⊥) → soundRow y ≡ withM (soundAttached y)
     unfolding soundRow
-    by-attached f = rw (le-leb (y .pps) 1 p, ne-eqb (y .cable) 0 f) refl
+    by-attached f = rw (le-leb (y .pps) 1 p, ne-eqb (y .cable .0) 0 f) refl

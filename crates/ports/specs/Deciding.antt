@@ -55,7 +55,7 @@ attachChange capacity s y port cable =
 
 unfoldable pub advertiseChange : ℕ → Standing → Row → ℕ → Change
 advertiseChange capacity s y port =
-    firstOf (noChange s) (useEndRefusals capacity s y port) (changing port (offering y (presentBeside capacity s y) (y .cable)))
+    firstOf (noChange s) (useEndRefusals capacity s y port) (changing port (offering y (presentBeside capacity s y) (y .cable .0)))
 
 abbrev pub refused : Change → Bool
 refused c = not (eqb (c .answer .number) 0)

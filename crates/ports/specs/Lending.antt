@@ -42,7 +42,7 @@ attachRows capacity ys port cable =
 
 -- the row with the cable that it has
 abbrev pub offeredAgain : ℕ → List Row → ℕ → Row
-offeredAgain capacity ys port = offered capacity ys port (portRow ys port .cable)
+offeredAgain capacity ys port = offered capacity ys port (portRow ys port .cable .0)
 
 unfoldable pub advertiseAnswer : ℕ → List Row → ℕ → Listing
 advertiseAnswer capacity ys port =

@@ -5,6 +5,7 @@ use mathlib.Core.Path.{_≡_}
 use mathlib.Core.Bool.{Bool}
 use Prim.Native.Nat.{ℕ}
 use Rattle.steps.specs.declared.HalfWatts.{HalfWatts}
+use Rattle.steps.specs.declared.Ma10.{Ma10}
 use Rattle.lists.specs.declared.Listing.{Listing}
 use Rattle.ports.specs.declared.Row.{Row}
 use Rattle.ports.specs.declared.Standing.{Standing}
@@ -33,8 +34,8 @@ TellsPlace s port r = r ≡ placeOf s port
 
 -- ---- the calls
 
-abbrev pub Attaches : Standing → Row → HalfWatts → ℕ → ℕ → Change → Type 0
-Attaches s y capacity port cable r = r ≡ attachChange (capacity .0) s y port cable
+abbrev pub Attaches : Standing → Row → HalfWatts → ℕ → Ma10 → Change → Type 0
+Attaches s y capacity port cable r = r ≡ attachChange (capacity .0) s y port (cable .0)
 
 abbrev pub Advertises : Standing → Row → HalfWatts → ℕ → Change → Type 0
 Advertises s y capacity port r = r ≡ advertiseChange (capacity .0) s y port

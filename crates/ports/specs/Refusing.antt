@@ -55,9 +55,9 @@ portRefusals capacity ys port = remainingRefusals capacity ys ++ noSuchPort (len
 
 -- "A port with cable 0 is empty; any other is attached."
 abbrev pub inUse : Row → Bool
-inUse y = not (eqb (y .cable) 0)
+inUse y = not (eqb (y .cable .0) 0)
 
--- 3: "cable neither 3 nor 5"; 34: "attach to a port that is attached". The place of 34 is the row.
+-- 3: "cable outside 100 to 500"; 34: "attach to a port that is attached". The place of 34 is the row.
 abbrev pub cannotAttach : Row → ℕ → ℕ → List Refusal
 cannotAttach y port cable = refusal (badCable cable) 3 0 ∷ refusal (inUse y) 34 port ∷ []
 

@@ -5,12 +5,12 @@ use mathlib.Core.List.{List}
 use Prim.Native.Nat.{ℕ, zero, suc, _+_, _-_, min}
 use lib.Dec.{eqb}
 use lib.ListN.{length, getD}
-use Rattle.rules.specs.Profiles.{halfWatts}
+use Rattle.rules.specs.Profiles.{halfWatts, in10mA}
 use Rattle.ports.specs.declared.Row.{Row}
 
 -- no row at all
 abbrev pub noRow : Row
-noRow = record { max = halfWatts 0; pps = 0; cable = 0; present = halfWatts 0; held = halfWatts 0 }
+noRow = record { max = halfWatts 0; pps = 0; cable = in10mA 0; present = halfWatts 0; held = halfWatts 0 }
 
 -- the row of place k + 1
 abbrev pub rowOf : List Row → ℕ → Row
@@ -22,7 +22,7 @@ portRow ys port = rowOf ys (port - 1)
 
 -- the column "empty port": cable 0, P 0, held 15
 unfoldable pub emptied : Row → Row
-emptied y = record { max = y .max; pps = y .pps; cable = 0; present = halfWatts 0; held = halfWatts 15 }
+emptied y = record { max = y .max; pps = y .pps; cable = in10mA 0; present = halfWatts 0; held = halfWatts 15 }
 
 -- the figures of the places 1..n together; `figure k` is that of place k + 1
 unfoldable pub together : (ℕ → ℕ) → ℕ → ℕ
@@ -58,7 +58,7 @@ presentFor capacity ys port = presentOf (portRow ys port) (leftFor capacity ys p
 
 -- a row with this P and this cable; what it holds stays
 unfoldable pub offering : Row → ℕ → ℕ → Row
-offering y present cable = record { max = y .max; pps = y .pps; cable = cable; present = halfWatts present; held = y .held }
+offering y present cable = record { max = y .max; pps = y .pps; cable = in10mA cable; present = halfWatts present; held = y .held }
 
 -- a port with its cable, offered that P
 abbrev pub offered : ℕ → List Row → ℕ → ℕ → Row

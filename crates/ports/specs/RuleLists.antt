@@ -1,12 +1,12 @@
 -- The rule list of a row (STATEMENT, "Rows").
 -- Assumes nothing.
 use mathlib.Core.Path.{_≡_}
-use mathlib.Core.Bool.{cond, _&&_}
-use mathlib.Core.Logic.{_⊎_}
+use mathlib.Core.Bool.{false, cond, _&&_}
 use Prim.Native.Nat.{ℕ, _≤_}
 use lib.Dec.{eqb}
 use Rattle.lists.specs.declared.Words.{Words}
 use Rattle.rules.specs.declared.Profile.{Profile}
+use Rattle.rules.specs.Profiles.{badCable}
 use Rattle.rules.specs.Building.{builtOf}
 use Rattle.ports.specs.declared.Row.{Row}
 
@@ -34,4 +34,4 @@ pub record Offerable (y : Row) : Type 0 where
   pub max-high : y .max .0 ≤ 200
   pub present-low : 1 ≤ y .present .0
   pub present-high : y .present .0 ≤ y .max .0
-  pub cable-is : (y .cable ≡ 3) ⊎ (y .cable ≡ 5)
+  pub good-cable : badCable (y .cable .0) ≡ false

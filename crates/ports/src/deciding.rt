@@ -30,6 +30,7 @@ use objects::Decoded;
 use rules::Placed;
 use rules::Profile;
 use steps::HalfWatts;
+use steps::Ma10;
 use verdicts::Verdict;
 
 // PPS exactly where it is wanted and P = M.
@@ -51,11 +52,12 @@ fn rule_profile(row: Row) -> Profile
 {
     let max = row.max;
     let present = row.present;
+    let cable = row.cable;
     let pps = rule_pps(row);
     Profile {
         max,
         present,
-        cable: row.cable,
+        cable,
         rounding: 0,
         pps,
         flags: 0,
@@ -136,9 +138,9 @@ fn smaller(max: HalfWatts, left: u32) -> HalfWatts
 }
 
 // The row with this cable, and its P anew.
-fn offered_row(standing: Standing, old: Row, capacity: HalfWatts, cable: u8) -> Row
+fn offered_row(standing: Standing, old: Row, capacity: HalfWatts, cable: Ma10) -> Row
     requires { ⌜ standing .held ≤ capacity .0 ⌝ }
-    ensures { λ r. ⌜ r ≡ offering old (presentBeside (capacity .0) standing old) cable ⌝ }
+    ensures { λ r. ⌜ r ≡ offering old (presentBeside (capacity .0) standing old) (cable .0) ⌝ }
 {
     let max = old.max;
     let held = old.held;
@@ -155,7 +157,7 @@ fn offered_row(standing: Standing, old: Row, capacity: HalfWatts, cable: u8) -> 
 
 // A cable came to an empty port: its row with this cable and a present power anew, which is the smaller of its maximum and what the
 // other rows leave. `offer` makes the list. Refusals: that of the standing (30, 32 or 37), 37 for the sum, 33, 3, 34 (the port).
-pub fn attach(standing: Standing, row: Row, capacity: HalfWatts, port: u8, cable: u8) -> Change
+pub fn attach(standing: Standing, row: Row, capacity: HalfWatts, port: u8, cable: Ma10) -> Change
     ensures { λ r. ⌜ Attaches standing row capacity port cable r ⌝ }
 {
     let fault = attach_fault(standing, row, capacity, port, cable);

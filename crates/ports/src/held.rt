@@ -8,11 +8,12 @@ pub(crate) fn holding_power(row: Row, held: HalfWatts) -> Row
     ensures { λ r. ⌜ r ≡ holding row (held .0) ⌝ }
 {
     let max = row.max;
+    let cable = row.cable;
     let present = row.present;
     Row {
         max,
         pps: row.pps,
-        cable: row.cable,
+        cable,
         present,
         held,
     }

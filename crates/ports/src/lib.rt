@@ -21,6 +21,7 @@ pub use judging::goes_on;
 pub use judging::place_of;
 pub use judging::take_row;
 use steps::HalfWatts;
+use steps::Ma10;
 use verdicts::Verdict;
 
 // One port. Fill in `max` and `pps` before set-up; the calls see to the rest.
@@ -30,8 +31,8 @@ pub struct Row {
     pub max: HalfWatts,
     // PPS wanted: 0 or 1.
     pub pps: u8,
-    // The cable in amperes, 3 or 5; 0 when the port is empty.
-    pub cable: u8,
+    // What the cable carries, 1 to 5 A: 100 to 500; 0 when the port is empty.
+    pub cable: Ma10,
     // The power P that its latest list was made for; 0 when the port is empty.
     pub present: HalfWatts,
     // The power that is kept for it: 15 at least, and what its latest request needs.
@@ -42,7 +43,7 @@ pub struct Row {
 pub const NO_ROW: Row = Row {
     max: HalfWatts(0),
     pps: 0,
-    cable: 0,
+    cable: Ma10(0),
     present: HalfWatts(0),
     held: HalfWatts(0),
 };
@@ -90,7 +91,7 @@ pub fn emptied(row: Row) -> Row
     Row {
         max,
         pps: row.pps,
-        cable: 0,
+        cable: Ma10(0),
         present: HalfWatts(0),
         held: HalfWatts(15),
     }

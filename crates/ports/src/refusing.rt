@@ -8,6 +8,7 @@ use crate::Standing;
 use crate::judging::end_fault;
 use crate::soundness::verdict_at;
 use steps::HalfWatts;
+use steps::Ma10;
 use verdicts::Verdict;
 
 // 30, 32, 37, then 33.
@@ -33,9 +34,9 @@ pub(crate) fn attach_fault(
     row: Row,
     capacity: HalfWatts,
     port: u8,
-    cable: u8,
+    cable: Ma10,
 ) -> Verdict
-    ensures { λ r. ⌜ r ≡ verdictOf (attachEndRefusals (capacity .0) standing row port cable) ⌝ }
+    ensures { λ r. ⌜ r ≡ verdictOf (attachEndRefusals (capacity .0) standing row port (cable .0)) ⌝ }
 {
     let fault = port_fault(standing, capacity, port);
     if fault.number != verdicts::SUCCESS {
@@ -44,7 +45,7 @@ pub(crate) fn attach_fault(
     if rules::bad_cable(cable) {
         return verdict_at(verdicts::CABLE, 0);
     }
-    if row.cable != 0 {
+    if row.cable.0 != 0 {
         return verdict_at(verdicts::PORT_IN_USE, port);
     }
     fault
@@ -58,7 +59,7 @@ pub(crate) fn use_fault(standing: Standing, row: Row, capacity: HalfWatts, port:
     if fault.number != verdicts::SUCCESS {
         return fault;
     }
-    if row.cable == 0 {
+    if row.cable.0 == 0 {
         return verdict_at(verdicts::PORT_NOT_ATTACHED, port);
     }
     fault

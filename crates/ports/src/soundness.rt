@@ -54,7 +54,7 @@ pub(crate) fn sound_row(row: Row) -> bool
     if 1 < row.pps {
         return false;
     }
-    if row.cable == 0 {
+    if row.cable.0 == 0 {
         return sound_empty(row);
     }
     sound_attached(row)

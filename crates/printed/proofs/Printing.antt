@@ -8,7 +8,7 @@ use native.Mathlib.Omega.{arith}
 use lib.ListN.{length, drop}
 use lib.Seq.{getD-drop}
 use Rattle.rules.specs.declared.Profile.{Profile}
-use Rattle.rules.specs.Profiles.{halfWatts}
+use Rattle.rules.specs.Profiles.{halfWatts, in10mA}
 use Rattle.rules.specs.Building.{builtOf}
 use Rattle.printed.specs.Ascii.{ascii}
 use Rattle.printed.specs.Records.{profileAt, listingLine}
@@ -41,7 +41,7 @@ later s n =
     let same : profileAt s (8 + 8 * n) ≡ profileAt (drop 8 s) (8 * n) = simp (getD-drop, add-assoc) in
     ap (recordLine s) place ∙ ap (λ (q : Profile). listingLine (builtOf q)) same
 
--- M and P "low byte first", cable, rounding, PPS wanted, flags: the line of the list built for them, then the rest.
+-- M and P "low byte first", cable in 100 mA, rounding, PPS wanted, flags: the line of the list built for them, then the rest.
 module _ (m m₂ p p₂ cable rounding pps flags : ℕ) (rest : List ℕ) where
   abbrev input : List ℕ
   input = m ∷ m₂ ∷ p ∷ p₂ ∷ cable ∷ rounding ∷ pps ∷ flags ∷ rest
@@ -51,7 +51,7 @@ module _ (m m₂ p p₂ cable rounding pps flags : ℕ) (rest : List ℕ) where
       record {
         max = halfWatts (m + 256 * m₂);
         present = halfWatts (p + 256 * p₂);
-        cable = cable;
+        cable = in10mA (cable * 10);
         rounding = rounding;
         pps = pps;
         flags = flags;

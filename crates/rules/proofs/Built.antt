@@ -1,15 +1,14 @@
 -- The objects that are built for a profile that passes: their currents, their words, and what the shape asks of each by itself.
 -- Assumes nothing.
 use mathlib.Core.Path.{_≡_, refl, ap}
-use mathlib.Core.Bool.{Bool, true, false, not, cond, _||_, and-eq-true-iff}
-use mathlib.Core.Logic.{_⊎_, inl, inr, ⊎-elim}
+use mathlib.Core.Bool.{Bool, true, false, not, cond, and-eq-true-iff}
 use Prim.Native.Nat.{ℕ, zero, suc, _*_, _≤_, _<_}
 use native.Mathlib.Nat.{min-le-right, le-min, mul-le-mul}
 use native.Mathlib.Omega.{arith}
-use lib.Dec.{leb, eqb}
-use borrow.Author.Tests.{leb-true, lt-ltb, le-leb, eqb-true, not-false}
+use lib.Dec.{leb}
+use borrow.Author.Tests.{leb-true, lt-ltb, le-leb}
 use Rattle.verdicts.specs.Refusals.{NoneApply}
-use Rattle.steps.proofs.RoundingLaws.{down-greatest, down-le-up}
+use Rattle.steps.proofs.RoundingLaws.{down-under, down-greatest, down-le-up}
 use Rattle.objects.specs.declared.Encoded.the-variants.{Word}
 use Rattle.objects.specs.Layout.{allFit}
 use Rattle.objects.specs.Encode.{fieldsOf, wordOf, encodeOf}
@@ -19,59 +18,46 @@ use Rattle.lists.specs.Writing.{wordIn}
 use Rattle.rules.specs.declared.Profile.{Profile}
 use Rattle.rules.specs.Profiles.{profileRefusals}
 use Rattle.rules.specs.Tables.{Slot, Nothing, Fixed, Avs, Prog}
-use Rattle.rules.specs.Currents.{limitAt, builtCurrent, progLimit, progCurrent, roundedAs, downAt, upAt, progDown}
+use Rattle.rules.specs.Currents.{limitAt, builtCurrent, progLimit, progCurrent, roundedAs, downAt, upAt, progDown, cableInWhole50mA}
 use Rattle.rules.specs.Building.{flagsAt, objectFor}
-use Rattle.rules.proofs.ProfileCases.{flags-high, present-low}
+use Rattle.rules.proofs.ProfileCases.{flags-high, present-low, cable-low, cable-high}
+use Rattle.rules.proofs.Allowed.{limit-within-cable, limit-from}
 use Rattle.rules.proofs.Slots.{slotGood}
 
-either-true : (a b : Bool) → (a || b) ≡ true → (a ≡ true) ⊎ (b ≡ true)
-either-true true b e = inl refl
-either-true false b e = inr e
+-- no current that is built passes the cable, which 50 mA count as five times 10
+module _ (p : Profile) (volts : ℕ) where
+  pub current-within-cable : builtCurrent p volts ≤ p .cable .0
+  unfolding builtCurrent
+  current-within-cable =
+      omega (
+        arith,
+        min-le-right (roundedAs (p .rounding) (downAt p volts) (upAt p volts)) (limitAt p volts),
+        limit-within-cable volts 300 (p .cable .0),
+      )
+
+  pub prog-within-cable : progCurrent p volts * 5 ≤ p .cable .0
+  unfolding progCurrent
+  prog-within-cable =
+      omega (
+        arith,
+        min-le-right (progDown p volts) (progLimit p volts),
+        limit-within-cable volts 60 (cableInWhole50mA p),
+        down-under (p .cable .0) 5,
+      )
 
 module _ (p : Profile) (x : NoneApply (profileRefusals p)) where
   -- ---- currents
 
-  pub cable-is : (p .cable ≡ 3) ⊎ (p .cable ≡ 5)
-  cable-is = ⊎-elim (λ e. inl (eqb-true (p .cable) 3 e)) (λ e. inr (eqb-true (p .cable) 5 e))
-      (either-true (eqb (p .cable) 3) (eqb (p .cable) 5) (not-false (eqb (p .cable) 3 || eqb (p .cable) 5) (x .1 .1 .0)))
-
-  pub cable-low : 3 ≤ p .cable
-  cable-low = ⊎-elim (λ e. omega arith) (λ e. omega arith) cable-is
-
-  pub cable-high : p .cable ≤ 5
-  cable-high = ⊎-elim (λ e. omega arith) (λ e. omega arith) cable-is
-
-  pub limit-high : (volts : ℕ) → limitAt p volts ≤ 500
-  limit-high volts = go (eqb volts 20) where
-    go : (b : Bool) → cond b (p .cable * 100) 300 ≤ 500
-    go true = omega (arith, cable-high)
-    go false = omega arith
-
-  pub limit-low : (volts : ℕ) → 300 ≤ limitAt p volts
-  limit-low volts = go (eqb volts 20) where
-    go : (b : Bool) → 300 ≤ cond b (p .cable * 100) 300
-    go true = omega (arith, cable-low)
-    go false = omega arith
-
   pub current-high : (volts : ℕ) → builtCurrent p volts ≤ 500
-  unfolding builtCurrent
-  current-high volts =
-      omega (arith, min-le-right (roundedAs (p .rounding) (downAt p volts) (upAt p volts)) (limitAt p volts), limit-high volts)
-
-  prog-limit-high : (volts : ℕ) → progLimit p volts ≤ 100
-  prog-limit-high volts = go (eqb volts 20) where
-    go : (b : Bool) → cond b (p .cable * 20) 60 ≤ 100
-    go true = omega (arith, cable-high)
-    go false = omega arith
+  current-high volts = omega (arith, current-within-cable p volts, cable-high p x)
 
   pub prog-high : (volts : ℕ) → progCurrent p volts ≤ 100
-  unfolding progCurrent
-  prog-high volts = omega (arith, min-le-right (progDown p volts) (progLimit p volts), prog-limit-high volts)
+  prog-high volts = omega (arith, prog-within-cable p volts, cable-high p x)
 
   -- at 20 V there is always some current
   pub some-at-20-V : 1 ≤ builtCurrent p 20
   unfolding builtCurrent
-  some-at-20-V = le-min (rounded (p .rounding)) (omega (arith, limit-low 20)) where
+  some-at-20-V = le-min (rounded (p .rounding)) (limit-from 20 300 (p .cable .0) 1 (omega arith) (omega (arith, cable-low p x))) where
     down : 1 ≤ downAt p 20
     down = down-greatest (50 * p .present .0) 20 1 (omega arith) (omega (arith, present-low p x))
 

@@ -193,7 +193,7 @@ module _ (p : Profile) (b : NoneApply (buildRefusals p)) where
   right-set = set-law p (builtWords p) profile-clear shape-clear ∙ ap not (ap₂ _&&_ right-count all-fit)
 
   currents-clear : (k : ℕ) → k < n → NoneApply (currentRows p ws k)
-  currents-clear k h = (ap (ofObject (currentRefused p (slot k))) (known k h) ∙ allowed-at p profile-clear (eqb k 0) (slot k) (good k h), tt)
+  currents-clear k h = (ap (ofObject (currentRefused p (slot k))) (known k h) ∙ allowed-at p (eqb k 0) (slot k) (good k h), tt)
 
   pub check-clear : NoneApply (checkRefusals p (builtWords p))
   check-clear =

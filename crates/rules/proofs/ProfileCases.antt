@@ -62,6 +62,12 @@ module _ (p : Profile) (x : NoneApply (profileRefusals p)) where
   pub present-low : 1 ≤ p .present .0
   present-low = at-least 1 (p .max .0) (p .present .0) (x .1 .0)
 
+  pub cable-low : 100 ≤ p .cable .0
+  cable-low = at-least 100 500 (p .cable .0) (x .1 .1 .0)
+
+  pub cable-high : p .cable .0 ≤ 500
+  cable-high = at-most 100 500 (p .cable .0) (x .1 .1 .0)
+
   pub rounding-high : p .rounding ≤ 1
   rounding-high = ltb-false 1 (p .rounding) (either-false (ltb 1 (p .rounding)) (ltb 1 (p .pps)) (x .1 .1 .1 .0) .0)
 

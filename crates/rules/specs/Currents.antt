@@ -20,37 +20,31 @@ abbrev pub roundedAs : ℕ → ℕ → ℕ → ℕ
 roundedAs zero down up = down
 roundedAs (suc n) down up = up
 
-abbrev pub cable10mA : Profile → ℕ
-cable10mA p = p .cable * 100
+-- of a limit of 3 A for all but 20 V, and of the cable for all: "at most 3 A at 5, 9 and 15 V, and at every voltage at most the cable"
+abbrev pub limitBy : ℕ → ℕ → ℕ → ℕ
+limitBy volts threeA cable = cond (eqb volts 20) cable (min threeA cable)
 
--- "at most 3 A at 5, 9 and 15 V, and at most the cable at 20 V"
 abbrev pub limitAt : Profile → ℕ → ℕ
-limitAt p volts = cond (eqb volts 20) (cable10mA p) 300
+limitAt p volts = limitBy volts 300 (p .cable .0)
 
 -- "Its current is the quotient rounded as R says", within its limit
 unfoldable pub builtCurrent : Profile → ℕ → ℕ
 builtCurrent p volts = min (roundedAs (p .rounding) (downAt p volts) (upAt p volts)) (limitAt p volts)
 
--- "What is allowed", the rows of fixed objects: at 5, 9 and 15 V where P > 6 V "from 3 A up to the smaller of the cable and the quotient
--- rounded up", otherwise "the quotient rounded down, or rounded up"; at 20 V both "cut to the cable".
-unfoldable pub fixedAllowed : Profile → ℕ → ℕ → Bool
-fixedAllowed p volts a =
-    cond (eqb volts 20)
-    (eqb a (min (downAt p volts) (cable10mA p)) || eqb a (min (upAt p volts) (cable10mA p)))
-    (cond (ltb (6 * volts) (p .present .0))
-    (leb 300 a && leb a (min (upAt p volts) (cable10mA p)))
-    (eqb a (downAt p volts) || eqb a (upAt p volts)))
-
--- The same as the code goes, in two cases: P above 3 A at 5, 9 and 15 V, and all else. `above-3-A` and `not-above-3-A` (proofs/Allowed) say that
--- `fixedAllowed` is the one or the other.
+-- "What is allowed", the rows of fixed objects. Of 5, 9 and 15 V: "P is above six times the volts, which is 3 A there"
 abbrev pub above3A : Profile → ℕ → Bool
 above3A p volts = not (eqb volts 20) && ltb (6 * volts) (p .present .0)
 
+-- there "from the smaller of 3 A and the cable up to the smaller of the cable and the quotient rounded up"
 abbrev pub allowedAbove3A : Profile → ℕ → ℕ → Bool
-allowedAbove3A p volts a = leb 300 a && leb a (min (upAt p volts) (cable10mA p))
+allowedAbove3A p volts a = leb (min 300 (p .cable .0)) a && leb a (min (p .cable .0) (upAt p volts))
 
+-- otherwise, and at 20 V: "the quotient rounded down, or rounded up, each cut to the cable"
 abbrev pub eitherRounding : Profile → ℕ → ℕ → Bool
-eitherRounding p volts a = eqb a (min (downAt p volts) (limitAt p volts)) || eqb a (min (upAt p volts) (limitAt p volts))
+eitherRounding p volts a = eqb a (min (downAt p volts) (p .cable .0)) || eqb a (min (upAt p volts) (p .cable .0))
+
+unfoldable pub fixedAllowed : Profile → ℕ → ℕ → Bool
+fixedAllowed p volts a = cond (above3A p volts) (allowedAbove3A p volts a) (eitherRounding p volts a)
 
 -- ---- PPS, in 50 mA
 
@@ -58,12 +52,13 @@ eitherRounding p volts a = eqb a (min (downAt p volts) (limitAt p volts)) || eqb
 abbrev pub progDown : Profile → ℕ → ℕ
 progDown p volts = downOf (10 * p .max .0) volts
 
-abbrev pub cable50mA : Profile → ℕ
-cable50mA p = p .cable * 20
+-- the "cable in whole 50 mA": "the greatest figure of 50 mA that is not above the cable", "C / 5 rounded down". A cut and no conversion
+abbrev pub cableInWhole50mA : Profile → ℕ
+cableInWhole50mA p = downOf (p .cable .0) 5
 
--- "at most its limit": the cable for 20 V Prog, 3 A for the other two
+-- "at most its limit, and at most the cable in whole 50 mA": the limit is 3 A, and 20 V Prog has none
 abbrev pub progLimit : Profile → ℕ → ℕ
-progLimit p volts = cond (eqb volts 20) (cable50mA p) 60
+progLimit p volts = limitBy volts 60 (cableInWhole50mA p)
 
 unfoldable pub progCurrent : Profile → ℕ → ℕ
 progCurrent p volts = min (progDown p volts) (progLimit p volts)
@@ -72,9 +67,9 @@ progCurrent p volts = min (progDown p volts) (progLimit p volts)
 abbrev pub mayExceed : ℕ → ℕ → Bool
 mayExceed m volts = (eqb volts 9 && (ltb 54 m && ltb m 90)) || (eqb volts 15 && (ltb 90 m && ltb m 120))
 
--- "the figure that is built", and of these two "in addition" "from the built figure up to the smaller of the cable and" the figure before
--- its limit, rounded down
+-- "the figure that is built", and of these two "in addition" "from the built figure up to the smaller of the cable in whole 50 mA and" the
+-- figure before its limit, rounded down
 unfoldable pub progAllowed : Profile → ℕ → ℕ → Bool
 progAllowed p volts a =
     eqb a (progCurrent p volts)
-    || (mayExceed (p .max .0) volts && (leb (progCurrent p volts) a && leb a (min (progDown p volts) (cable50mA p))))
+    || (mayExceed (p .max .0) volts && (leb (progCurrent p volts) a && leb a (min (progDown p volts) (cableInWhole50mA p))))

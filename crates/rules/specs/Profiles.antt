@@ -7,12 +7,13 @@ use lib.Dec.{ltb, eqb}
 use Rattle.verdicts.specs.Refusals.{Refusal, refusal, firstOf, verdict, success}
 use Rattle.steps.specs.Ranges.{within}
 use Rattle.steps.specs.declared.HalfWatts.{HalfWatts}
+use Rattle.steps.specs.declared.Ma10.{Ma10}
 use Rattle.rules.specs.declared.Profile.{Profile}
 use Rattle.rules.specs.declared.Profiled.{Profiled}
 
--- 3: "cable neither 3 nor 5"
+-- 3: "cable outside 100 to 500"
 abbrev pub badCable : ℕ → Bool
-badCable amperes = not (eqb amperes 3 || eqb amperes 5)
+badCable cable = not (within 100 500 cable)
 
 -- 1 to 5, in order: M, P, cable, rounding, PPS wanted, F
 abbrev pub profileRows : ℕ → ℕ → ℕ → ℕ → ℕ → ℕ → List Refusal
@@ -25,7 +26,7 @@ profileRows m p cable rounding pps flags =
     ∷ []
 
 abbrev pub profileRefusals : Profile → List Refusal
-profileRefusals p = profileRows (p .max .0) (p .present .0) (p .cable) (p .rounding) (p .pps) (p .flags)
+profileRefusals p = profileRows (p .max .0) (p .present .0) (p .cable .0) (p .rounding) (p .pps) (p .flags)
 
 -- 6: "PPS wanted while P is below M; the builder alone"
 abbrev pub ppsBelowMaximum : Profile → Bool
@@ -45,12 +46,15 @@ pub record Within (p : Profile) : Type 0 where
 abbrev pub halfWatts : ℕ → HalfWatts
 halfWatts n = record { 0 = n }
 
+abbrev pub in10mA : ℕ → Ma10
+in10mA n = record { 0 = n }
+
 -- "P equal to M, a 3 A cable, rounding down, no PPS and no flags"
 abbrev pub defaults : HalfWatts → Profile
-defaults m = record { max = m; present = m; cable = 3; rounding = 0; pps = 0; flags = 0 }
+defaults m = record { max = m; present = m; cable = in10mA 300; rounding = 0; pps = 0; flags = 0 }
 
 abbrev pub noProfile : Profile
-noProfile = record { max = halfWatts 0; present = halfWatts 0; cable = 0; rounding = 0; pps = 0; flags = 0 }
+noProfile = record { max = halfWatts 0; present = halfWatts 0; cable = in10mA 0; rounding = 0; pps = 0; flags = 0 }
 
 abbrev pub profileRefused : ℕ → ℕ → Profiled
 profileRefused n p = record { verdict = verdict n p; profile = noProfile }

@@ -6,6 +6,7 @@ use mathlib.Core.Bool.{Bool}
 use Prim.Native.Nat.{ℕ}
 use Rattle.verdicts.specs.declared.Verdict.{Verdict}
 use Rattle.steps.specs.declared.HalfWatts.{HalfWatts}
+use Rattle.steps.specs.declared.Ma10.{Ma10}
 use Rattle.lists.specs.declared.Words.{Words}
 use Rattle.lists.specs.declared.Listing.{Listing}
 use Rattle.rules.specs.declared.Profile.{Profile}
@@ -16,8 +17,8 @@ use Rattle.rules.specs.Building.{builtOf}
 use Rattle.rules.specs.Placing.{placedSays, placeSays}
 use Rattle.rules.specs.Checking.{checkedOf}
 
-abbrev pub TellsBadCable : ℕ → Bool → Type 0
-TellsBadCable amperes r = r ≡ badCable amperes
+abbrev pub TellsBadCable : Ma10 → Bool → Type 0
+TellsBadCable cable r = r ≡ badCable (cable .0)
 
 abbrev pub Defaults : HalfWatts → Profiled → Type 0
 Defaults m r = r ≡ defaultOf m

@@ -4,11 +4,16 @@ ghost use mathlib.Core.Bool.{_&&_};
 ghost use Prim.Native.Nat.{_*_, _<_, min};
 ghost use lib.Dec.{ltb};
 ghost use Rattle.rules.specs.Profiles.{Within};
-ghost use Rattle.rules.specs.Currents.{downAt, upAt, cable10mA, limitAt, builtCurrent, fixedAllowed, above3A, allowedAbove3A, eitherRounding, cable50mA, progDown, progLimit, progCurrent, mayExceed, progAllowed};
+ghost use Rattle.rules.specs.Currents.{downAt, upAt, limitAt, builtCurrent, fixedAllowed, above3A, allowedAbove3A, eitherRounding, cableInWhole50mA, progDown, progLimit, progCurrent, mayExceed, progAllowed};
 use crate::Profile;
 use steps::HalfWatts;
 use steps::Ma10;
 use steps::Ma50;
+
+// 3 A in each step of current.
+const THREE_A: Ma10 = Ma10(300);
+
+const THREE_A_50: Ma50 = Ma50(60);
 
 // ---- fixed objects
 
@@ -49,19 +54,14 @@ fn both_at(p: Profile, volts: u16) -> RoundedCurrents
     }
 }
 
-fn cable(p: Profile) -> Ma10
-    ensures { λ r. ⌜ r .0 ≡ cable10mA p ⌝ }
-{
-    Ma10((p.cable as u16) * 100)
-}
-
+// "at most 3 A at 5, 9 and 15 V, and at every voltage at most the cable"
 fn limit_at(p: Profile, volts: u16) -> Ma10
     ensures { λ r. ⌜ r .0 ≡ limitAt p volts ⌝ }
 {
     if volts == 20 {
-        return cable(p);
+        return p.cable;
     }
-    Ma10(300)
+    smaller(THREE_A, p.cable)
 }
 
 // The current of a fixed object that is built.
@@ -86,39 +86,38 @@ fn above_3_a(p: Profile, volts: u16) -> bool
     6 * (volts as u32) < p.present.0 as u32
 }
 
-// There "from 3 A up to the smaller of the cable and the quotient rounded up". What 3 A and the cable decide needs no division; most lists
-// have 3 A here.
+// There "from the smaller of 3 A and the cable up to the smaller of the cable and the quotient rounded up". What 3 A and the cable decide
+// needs no division; most lists have the lower end here.
 fn allowed_above_3_a(p: Profile, volts: u16, current: Ma10) -> bool
     requires { ⌜ Within p × (0 < volts) × (6 * volts < p .present .0) ⌝ }
     ensures { λ r. ⌜ r ≡ allowedAbove3A p volts (current .0) ⌝ }
 {
-    if current.0 < 300 {
+    let low = smaller(THREE_A, p.cable);
+    if current.0 < low.0 {
         return false;
     }
-    if cable(p).0 < current.0 {
+    if p.cable.0 < current.0 {
         return false;
     }
-    if current.0 == 300 {
+    if current.0 == low.0 {
         return true;
     }
     current.0 <= up_at(p, volts).0
 }
 
-// "the quotient rounded down, or rounded up", within its limit.
+// "the quotient rounded down, or rounded up, each cut to the cable"
 fn either_rounding(p: Profile, volts: u16, current: Ma10) -> bool
     requires { ⌜ Within p ⌝ }
     ensures { λ r. ⌜ r ≡ eitherRounding p volts (current .0) ⌝ }
 {
-    let limit = limit_at(p, volts);
     let both = both_at(p, volts);
-    if current.0 == smaller(both.down, limit).0 {
+    if current.0 == smaller(both.down, p.cable).0 {
         return true;
     }
-    current.0 == smaller(both.up, limit).0
+    current.0 == smaller(both.up, p.cable).0
 }
 
-// Whether a fixed object may have this current. 20 V is one case with the others where P is not above 3 A: their limit of 3 A cuts nothing
-// off there.
+// Whether a fixed object may have this current. 20 V is one case with the others where P is not above 3 A.
 pub(crate) fn fixed_allowed(p: Profile, volts: u16, current: Ma10) -> bool
     requires { ⌜ Within p × (0 < volts) ⌝ }
     ensures { λ r. ⌜ r ≡ fixedAllowed p volts (current .0) ⌝ }
@@ -144,19 +143,22 @@ fn prog_down(p: Profile, volts: u16) -> Ma50
     Ma50(steps::round_down(10 * (p.max.0 as u32), volts as u32) as u16)
 }
 
-fn cable_50(p: Profile) -> Ma50
-    ensures { λ r. ⌜ r .0 ≡ cable50mA p ⌝ }
+// "the greatest figure of 50 mA that is not above the cable"
+fn cable_in_whole_50_ma(p: Profile) -> Ma50
+    ensures { λ r. ⌜ r .0 ≡ cableInWhole50mA p ⌝ }
 {
-    Ma50((p.cable as u16) * 20)
+    Ma50(p.cable.0 / 5)
 }
 
+// 3 A for 9 V Prog and 15 V Prog, and for each of the three the cable.
 fn prog_limit(p: Profile, volts: u16) -> Ma50
     ensures { λ r. ⌜ r .0 ≡ progLimit p volts ⌝ }
 {
+    let cable = cable_in_whole_50_ma(p);
     if volts == 20 {
-        return cable_50(p);
+        return cable;
     }
-    Ma50(60)
+    smaller_50(THREE_A_50, cable)
 }
 
 // The current of a programmable supply that is built.
@@ -200,7 +202,7 @@ pub(crate) fn prog_allowed(p: Profile, volts: u16, current: Ma50) -> bool
         if current.0 < built.0 {
             return false;
         }
-        return current.0 <= smaller_50(down, cable_50(p)).0;
+        return current.0 <= smaller_50(down, cable_in_whole_50_ma(p)).0;
     }
     false
 }

@@ -13,6 +13,7 @@ pub use placing::word_at;
 pub use profiles::bad_cable;
 pub use profiles::default_profile;
 use steps::HalfWatts;
+use steps::Ma10;
 use verdicts::Verdict;
 
 // A port: what a list is built for and checked against.
@@ -22,8 +23,8 @@ pub struct Profile {
     pub max: HalfWatts,
     // The present power P, 1 to the port maximum.
     pub present: HalfWatts,
-    // The cable in amperes, 3 or 5.
-    pub cable: u8,
+    // What the cable carries, 1 to 5 A: 100 to 500.
+    pub cable: Ma10,
     // How currents are rounded: 0 down, 1 up.
     pub rounding: u8,
     // PPS wanted: 0 or 1.

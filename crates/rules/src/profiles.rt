@@ -8,6 +8,7 @@ ghost use Rattle.rules.specs.Promises.{TellsBadCable, Defaults};
 use crate::Profile;
 use crate::Profiled;
 use steps::HalfWatts;
+use steps::Ma10;
 use verdicts::Verdict;
 
 // The bounds of a port maximum (1), and the low end of the present power (2).
@@ -32,7 +33,7 @@ fn no_profile(number: u8) -> Profiled
         profile: Profile {
             max: HalfWatts(0),
             present: HalfWatts(0),
-            cable: 0,
+            cable: Ma10(0),
             rounding: 0,
             pps: 0,
             flags: 0,
@@ -55,7 +56,7 @@ pub fn default_profile(max: HalfWatts) -> Profiled
         profile: Profile {
             max,
             present: max,
-            cable: 3,
+            cable: Ma10(300),
             rounding: 0,
             pps: 0,
             flags: 0,
@@ -71,25 +72,25 @@ pub fn judge_profile(p: Profile) -> Verdict
     Verdict { number, place: 0 }
 }
 
-// Whether a cable of so many amperes is refused with 3. One of 3 or 5 amperes is not. Nothing is refused here.
-pub fn bad_cable(amperes: u8) -> bool
-    ensures { λ r. ⌜ TellsBadCable amperes r ⌝ }
+// Whether a cable is refused with 3. One that carries 1 to 5 A is not. Nothing is refused here.
+pub fn bad_cable(cable: Ma10) -> bool
+    ensures { λ r. ⌜ TellsBadCable cable r ⌝ }
 {
-    if amperes == 3 {
-        return false;
+    if cable.0 < 100 {
+        return true;
     }
-    amperes != 5
+    500 < cable.0
 }
 
 fn profile_fault(
     max: HalfWatts,
     present: HalfWatts,
-    cable: u8,
+    cable: Ma10,
     rounding: u8,
     pps: u8,
     flags: u8,
 ) -> u8
-    ensures { λ r. ⌜ r ≡ verdictOf (profileRows (max .0) (present .0) cable rounding pps flags) .number ⌝ }
+    ensures { λ r. ⌜ r ≡ verdictOf (profileRows (max .0) (present .0) (cable .0) rounding pps flags) .number ⌝ }
 {
     if outside(LEAST, max, GREATEST) {
         return verdicts::PORT_MAXIMUM;

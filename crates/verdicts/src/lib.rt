@@ -19,7 +19,7 @@ pub const PORT_MAXIMUM: u8 = 1;
 // Of a profile: the present power is outside 1 half watt to the port maximum.
 pub const PRESENT_POWER: u8 = 2;
 
-// Of a profile, and at attach: the cable is neither 3 A nor 5 A.
+// Of a profile, and at attach: the cable carries less than 1 A, or more than 5 A.
 pub const CABLE: u8 = 3;
 
 // Of a profile: rounding or PPS wanted is neither 0 nor 1. At set-up PPS wanted of a row is; the place is that row.

@@ -38,7 +38,7 @@ use Rattle.ports.proofs.emptied.Met as emptied-thm
 use Rattle.board.specs.Rows.{emptiedTo}
 use Rattle.board.proofs.EmptiedTo.{length-emptied}
 use Rattle.board.proofs.Data.{Data, number, Tuple, Values, Facts, stored}
-use Rattle.board.proofs.Structs.{row, R, vals, offset-fits}
+use Rattle.board.proofs.Structs.{row, R, vals, row-bytes, offset-fits}
 use Rattle.board.proofs.Lent.{stored-slice, Loan, obs, bor, token, slice}
 use Rattle.board.proofs.Cells.{Blocks, envOf, block, cells, allocates, releases, got, got-field, sets, resets, keeps}
 use Rattle.board.proofs.Known.{ByValue, calls}
@@ -109,12 +109,12 @@ module _ {M : Type 1} {𝓤 : URA M} {H : Heap 𝓤} {A : Atoms 𝓤} (W : Given
         let next : suc i ≡ n - t = omega (arith, le) in
         let one-more : i + 1 ≡ n - t = omega (arith, le) in
         let more-fits : i + 1 < 2 ^ 64 = omega (arith, le, are .0 .1) in
-        let place-fits : i * 8 < 2 ^ 64 = offset-fits (length (r .rows)) i (r .room) (omega (arith, le, enough)) in
+        let place-fits : i * row-bytes < 2 ^ 64 = offset-fits (length (r .rows)) i (r .room) (omega (arith, le, enough)) in
         sets ! (bin ! (got ! 9 refl) (got ! 7 refl) tt) 15 refl (tt, tt) $
         rewrite ! 15 (λ (z : Bool). ‵ (fat fullShare tyBool (at 6) 0 (vbool z))) (lt-ltb i n within) refl $ stays ! (got ! 15 refl) $
         sets ! (bin ! (got ! 9 refl) (lit ! tt) (record { fits = place-fits })) 17 refl (tt, record { fits = place-fits }) $
         sets ! (bin ! (got-field ! 5 refl (sub ! 0 refl (whole !))) (got ! 17 refl) tt) 19 refl (tt, tt) $
-        rewrite ! 19 (λ (p : ℕ). ‵ (fat fullShare tyPtr (at 8) 0 (vptr (r .block) p))) (sym (place-is 8 (r .offset) i)) refl $
+        rewrite ! 19 (λ (p : ℕ). ‵ (fat fullShare tyPtr (at 8) 0 (vptr (r .block) p))) (sym (place-is row-bytes (r .offset) i)) refl $
         opens-slice ! tt R before (r .block) (r .offset) $
         elem-out ! R (Is R) (shows 𝓤 H A R) vals (row .tells) fullShare before i noRow (r .block) (r .offset) inside (λ is-y.
         -- [rows[i]; what it owns; the others; the open borrow; obs; auth; _0; …]: local k is at 6 + 2 * k
@@ -126,7 +126,7 @@ module _ {M : Type 1} {𝓤 : URA M} {H : Heap 𝓤} {A : Atoms 𝓤} (W : Given
         keeps ! 13 refl (stored W row (emptied y) is-e .0) $
         resets ! (bin ! (got ! 9 refl) (lit ! tt) (record { fits = place-fits })) 17 refl (tt, record { fits = place-fits }) $
         sets ! (bin ! (got-field ! 5 refl (sub ! 0 refl (whole !))) (got ! 17 refl) tt) 23 refl (tt, tt) $
-        rewrite ! 23 (λ (p : ℕ). ‵ (fat fullShare tyPtr (at 10) 0 (vptr (r .block) p))) (sym (place-is 8 (r .offset) i)) refl $
+        rewrite ! 23 (λ (p : ℕ). ‵ (fat fullShare tyPtr (at 10) 0 (vptr (r .block) p))) (sym (place-is row-bytes (r .offset) i)) refl $
         opens-slice ! tt R before (r .block) (r .offset) $
         elem-out ! R (Is R) (shows 𝓤 H A R) vals (row .tells) fullShare before i noRow (r .block) (r .offset) inside (λ _.
         assigns ! (of-opd ! (got ! 16 refl)) (from ! (hop ! (look ! 26 refl) (stop !))) (store-raw ! 0 refl (stored W row (emptied y) is-e .0)) $

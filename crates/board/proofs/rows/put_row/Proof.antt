@@ -25,7 +25,7 @@ use denote.Steps.{owned}
 use denote.Triple.Table.{entered}
 use Rattle.ports.specs.declared.Row.{Row}
 use Rattle.board.proofs.Data.{Data, number, Tuple, stored}
-use Rattle.board.proofs.Structs.{row, R, vals, offset-fits}
+use Rattle.board.proofs.Structs.{row, R, vals, row-bytes, offset-fits}
 use Rattle.board.proofs.Lent.{stored-slice}
 use Rattle.board.proofs.Cells.{envOf, block, allocates, releases-full, got, got-field, sets}
 use Rattle.board.proofs.Meeting.{PostWritten, WalkWritten, ends-written, meets-written}
@@ -49,11 +49,11 @@ module _ {M : Type 1} {𝓤 : URA M} {H : Heap 𝓤} {A : Atoms 𝓤} (W : Given
       sets ! (bin ! (got ! 6 refl) (got ! 10 refl) tt) 12 refl (tt, tt) $
       first ! $ branches ! (got ! 12 refl)
       (λ t. let inside : i < length ys = ltb→lt i (length ys) t in
-      let fits : i * 8 < 2 ^ 64 = offset-fits (length ys) i (r .room) inside in
+      let fits : i * row-bytes < 2 ^ 64 = offset-fits (length ys) i (r .room) inside in
       sets ! (bin ! (got ! 6 refl) (lit ! tt) (record { fits = fits })) 14 refl (tt, record { fits = fits }) $
       sets ! (bin ! (got-field ! 4 refl (sub ! 0 refl (whole !))) (got ! 14 refl) tt) 16 refl (tt, tt) $
       rewrite ! 16 (λ (p : ℕ). ‵ (fat fullShare tyPtr (block (code.function .locals) l 7) 0 (vptr (r .block) p)))
-      (sym (place-is 8 (r .offset) i)) refl $
+      (sym (place-is row-bytes (r .offset) i)) refl $
       fsplit ! $ drop ! $ fsplit ! $ opens-slice ! tt R ys (r .block) (r .offset) $
       elem-out ! R (Is R) (shows 𝓤 H A R) vals (row .tells) fullShare ys i y (r .block) (r .offset) inside (λ _.
       -- [rows[at]; what it owns; the others; the open borrow; obs; auth; _0; …]

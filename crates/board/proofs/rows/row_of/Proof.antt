@@ -22,14 +22,14 @@ use denote.Laws.{Is, shows}
 use denote.Slice.{shr-slice-copy}
 use denote.Index.{place-is, elem-out, elem-back, looks-slice, shuts-slice}
 use denote.Triple.Table.{entered, cited}
-use Rattle.rules.specs.Profiles.{halfWatts}
+use Rattle.rules.specs.Profiles.{halfWatts, in10mA}
 use Rattle.ports.specs.declared.Row.{Row}
 use Rattle.ports.specs.Rows.{noRow, rowOf}
 use Rattle.ports.specs.Standing.{placeOf}
 use Rattle.ports.proofs.place_of.Symbol.{name as #place-of}
 use Rattle.ports.proofs.place_of.Met as place-thm
 use Rattle.board.proofs.Data.{Data, number, Tuple, stored}
-use Rattle.board.proofs.Structs.{half-watts, row, standing, half-watts-is, no-row-is, R, vals, offset-fits, copies}
+use Rattle.board.proofs.Structs.{half-watts, ma10, row, standing, half-watts-is, ma10-is, no-row-is, R, vals, row-bytes, offset-fits, copies}
 use Rattle.board.proofs.Lent.{stored-slice, theirs, slice, under}
 use Rattle.board.proofs.Cells.{envOf, block, allocates, releases, releases-full, got, got-field, sets, keeps}
 use Rattle.board.proofs.Known.{ByValue, calls}
@@ -59,11 +59,11 @@ module _ {M : Type 1} {𝓤 : URA M} {H : Heap 𝓤} {A : Atoms 𝓤} (W : Given
       sets ! (bin ! (got ! 10 refl) (got ! 12 refl) tt) 14 refl (tt, tt) $
       first ! $ branches ! (got ! 14 refl)
       (λ t. let inside : at < length (r .rows) = ltb→lt at (length (r .rows)) t in
-      let fits : at * 8 < 2 ^ 64 = offset-fits (length (r .rows)) at (r .room) inside in
+      let fits : at * row-bytes < 2 ^ 64 = offset-fits (length (r .rows)) at (r .room) inside in
       sets ! (bin ! (got ! 10 refl) (lit ! tt) (record { fits = fits })) 18 refl (tt, record { fits = fits }) $
       sets ! (bin ! (got-field ! 4 refl (sub ! 0 refl (whole !))) (got ! 18 refl) tt) 20 refl (tt, tt) $
       rewrite ! 20 (λ (p : ℕ). ‵ (fat fullShare tyPtr (block (code.function .locals) l 9) 0 (vptr (r .block) p)))
-      (sym (place-is 8 (r .offset) at)) refl $
+      (sym (place-is row-bytes (r .offset) at)) refl $
       use1 W (‵ (theirs r (r .lft) (r .name)) ⊛ ‵ (theirs r (r .lft) (r .name)))
       (shr-slice-copy 𝓤 H A W (named 0) (r .lft) R .twice (under r (r .name)) (slice r ∷ [])) $ split ! $
       fsplit ! $ move ! (1 ∷ []) $ fsplit ! $ move ! (1 ∷ 4 ∷ []) $
@@ -83,15 +83,16 @@ module _ {M : Type 1} {𝓤 : URA M} {H : Heap 𝓤} {A : Atoms 𝓤} (W : Given
       by ! (ends-lent W ds row Says r a are (rowOf (r .rows) at) refl is-y))))
       (λ t. let past : length (r .rows) ≤ at = nltb→le at (length (r .rows)) t in
       sets ! (agg ! (and-then ! (lit ! tt) (no-more !))) 24 refl (stored W half-watts (halfWatts 0) (half-watts-is 0 (lit< tt)) .0) $
-      sets ! (agg ! (and-then ! (lit ! tt) (no-more !))) 26 refl (stored W half-watts (halfWatts 0) (half-watts-is 0 (lit< tt)) .0) $
+      sets ! (agg ! (and-then ! (lit ! tt) (no-more !))) 26 refl (stored W ma10 (in10mA 0) (ma10-is 0 (lit< tt)) .0) $
       sets ! (agg ! (and-then ! (lit ! tt) (no-more !))) 28 refl (stored W half-watts (halfWatts 0) (half-watts-is 0 (lit< tt)) .0) $
+      sets ! (agg ! (and-then ! (lit ! tt) (no-more !))) 30 refl (stored W half-watts (halfWatts 0) (half-watts-is 0 (lit< tt)) .0) $
       assigns-last ! (agg ! (and-then ! (got ! 24 refl) (and-then ! (lit ! tt)
-      (and-then ! (lit ! tt) (and-then ! (got ! 26 refl) (and-then ! (got ! 28 refl) (no-more !)))))))
+      (and-then ! (got ! 26 refl) (and-then ! (got ! 28 refl) (and-then ! (got ! 30 refl) (no-more !)))))))
       (from ! (stop !)) (init ! 16 refl (stored W row noRow no-row-is .0)) $
       exec ! (𝓣 .C) (𝓣 .Λ) (envOf (code.function .locals) l) parts.t-5 (atRet (envOf (code.function .locals) l) (PostLent W ds row Says r a)) $
       sets ! (of-opd ! (got ! 16 refl)) 2 refl (stored W row noRow no-row-is .0) $
       returns ! (look ! 2 refl) $
-      releases ! (some _ ∷ some _ ∷ some _ ∷ some _ ∷ some _ ∷ some _ ∷ some _ ∷ some _ ∷ none ∷ none ∷ none ∷ some _ ∷ some _ ∷ some _ ∷ []) $
+      releases ! (some _ ∷ some _ ∷ some _ ∷ some _ ∷ some _ ∷ some _ ∷ some _ ∷ some _ ∷ none ∷ none ∷ none ∷ some _ ∷ some _ ∷ some _ ∷ some _ ∷ []) $
       by ! (ends-lent W ds row Says r a are noRow (sym (List·getD-eq-default (r .rows) noRow past)) no-row-is))))
     where
       at : ℕ

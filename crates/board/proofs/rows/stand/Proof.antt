@@ -42,7 +42,7 @@ use Rattle.ports.proofs.goes_on.Met as goes-thm
 use Rattle.ports.proofs.take_row.Symbol.{name as #take-row}
 use Rattle.ports.proofs.take_row.Met as take-thm
 use Rattle.board.proofs.Data.{Data, number, flag, Tuple, Values, Facts, IsA, stored}
-use Rattle.board.proofs.Structs.{half-watts, row, standing, R, vals, offset-fits, copies}
+use Rattle.board.proofs.Structs.{half-watts, row, standing, R, vals, row-bytes, offset-fits, copies}
 use Rattle.board.proofs.Lent.{stored-slice, Loan, theirs, token, slice, under}
 use Rattle.board.proofs.Cells.{Blocks, envOf, block, cells, allocates, releases, got, got-field, sets, resets, keeps}
 use Rattle.board.proofs.Known.{ByValue, calls, calls-last}
@@ -136,7 +136,7 @@ module _ {M : Type 1} {𝓤 : URA M} {H : Heap 𝓤} {A : Atoms 𝓤} (W : Given
         rewrite ! 18 (λ (z : Bool). ‵ (fat fullShare tyBool (at 8) 0 (vbool z))) e refl $ stays ! (got ! 18 refl) $
         sets ! (bin ! (got ! 12 refl) (lit ! tt) (record { fits = place-fits })) 20 refl (tt, record { fits = place-fits }) $
         sets ! (bin ! (got-field ! 4 refl (sub ! 0 refl (whole !))) (got ! 20 refl) tt) 22 refl (tt, tt) $
-        rewrite ! 22 (λ (p : ℕ). ‵ (fat fullShare tyPtr (at 10) 0 (vptr (r .block) p))) (sym (place-is 8 (r .offset) i)) refl $
+        rewrite ! 22 (λ (p : ℕ). ‵ (fat fullShare tyPtr (at 10) 0 (vptr (r .block) p))) (sym (place-is row-bytes (r .offset) i)) refl $
         use1 W (‵ (theirs r (r .lft) (r .name)) ⊛ ‵ (theirs r (r .lft) (r .name)))
         (shr-slice-copy 𝓤 H A W (named 0) (r .lft) R .twice (under r (r .name)) (slice r ∷ [])) $ split ! $
         fsplit ! $ move ! (1 ∷ []) $ fsplit ! $ move ! (1 ∷ 4 ∷ []) $
@@ -175,7 +175,7 @@ module _ {M : Type 1} {𝓤 : URA M} {H : Heap 𝓤} {A : Atoms 𝓤} (W : Given
         i-fits : i < 2 ^ 64
         i-fits = omega (arith, r .room .0)
 
-        place-fits : i * 8 < 2 ^ 64
+        place-fits : i * row-bytes < 2 ^ 64
         place-fits = offset-fits n i (r .room) inside
 
         more-fits : i + 1 < 2 ^ 64

@@ -1,10 +1,10 @@
 -- `caps::records::profile_at` meets its contract: each byte is read where the definition reads it.
 -- Assumes nothing.
 use borrow.Author.Needs.{needs}
-use mathlib.Core.Path.{ap₂}
+use mathlib.Core.Path.{ap, ap₂, _∙_}
 use Prim.Native.Nat.{ℕ}
 use Rattle.rules.specs.declared.Profile.{Profile}
-use Rattle.rules.specs.Profiles.{halfWatts}
+use Rattle.rules.specs.Profiles.{halfWatts, in10mA}
 use Rattle.printed.specs.Records.{profileAt}
 use Rattle.caps.proofs.records.profile_at.Statement.{statement}
 use Rattle.caps.proofs.records.profile_at.Tie as tie
@@ -36,37 +36,40 @@ shared-slice-read-two-bytes-4 c = search needs
 two-bytes-requires-2 : tie.Need-two-bytes-requires-2
 two-bytes-requires-2 c κs = search needs
 
-add-t18 : tie.Need-add-t18
-add-t18 c = search needs
+add-cable-of : tie.Need-add-cable-of
+add-cable-of c = search needs
 
-shared-slice-read-t20 : tie.Need-shared-slice-read-t20
-shared-slice-read-t20 c = search needs
+shared-slice-read-cable-of : tie.Need-shared-slice-read-cable-of
+shared-slice-read-cable-of c = search needs
 
-add-t21 : tie.Need-add-t21
-add-t21 c = search needs
+cable-of-requires : tie.Need-cable-of-requires
+cable-of-requires c κs = search needs
 
-shared-slice-read-t23 : tie.Need-shared-slice-read-t23
-shared-slice-read-t23 c = search needs
+add-t22 : tie.Need-add-t22
+add-t22 c = search needs
 
-add-t24 : tie.Need-add-t24
-add-t24 c = search needs
+shared-slice-read-t24 : tie.Need-shared-slice-read-t24
+shared-slice-read-t24 c = search needs
 
-shared-slice-read-t26 : tie.Need-shared-slice-read-t26
-shared-slice-read-t26 c = search needs
+add-t25 : tie.Need-add-t25
+add-t25 c = search needs
 
-add-t27 : tie.Need-add-t27
-add-t27 c = search needs
+shared-slice-read-t27 : tie.Need-shared-slice-read-t27
+shared-slice-read-t27 c = search needs
 
-shared-slice-read-t29 : tie.Need-shared-slice-read-t29
-shared-slice-read-t29 c = search needs
+add-t28 : tie.Need-add-t28
+add-t28 c = search needs
+
+shared-slice-read-t30 : tie.Need-shared-slice-read-t30
+shared-slice-read-t30 c = search needs
 
 -- the other bytes are read as they are
-abbrev with-powers : Profile → ℕ → ℕ → Profile
-with-powers q m p =
+abbrev with-figures : Profile → ℕ → ℕ → ℕ → Profile
+with-figures q m p cable =
     record {
       max = halfWatts m;
       present = halfWatts p;
-      cable = q .cable;
+      cable = in10mA cable;
       rounding = q .rounding;
       pps = q .pps;
       flags = q .flags;
@@ -74,10 +77,13 @@ with-powers q m p =
 
 returns : tie.Need-returns
 returns c =
-    let present = c .before .before .before .before in
+    let cable = c .before .before .before in
+    let present = cable .before .before in
     let max = present .before .before .before in
     let start = max .before .before .before .before in
-    ap₂ (with-powers (profileAt (start .args .input .now) (start .args .at))) (max .two-bytes .ensures) (present .two-bytes2 .ensures)
+    let read = profileAt (start .args .input .now) (start .args .at) in
+    ap₂ (λ (m p : ℕ). with-figures read m p (cable .cable-of .result .0)) (max .two-bytes .ensures) (present .two-bytes2 .ensures)
+    ∙ ap (with-figures read (read .max .0) (read .present .0)) (cable .cable-of .ensures)
 
 pub profile-at-spec : {M : Type 1} → statement M
 profile-at-spec =
@@ -92,12 +98,13 @@ profile-at-spec =
     add-two-bytes-3
     shared-slice-read-two-bytes-4
     two-bytes-requires-2
-    add-t18
-    shared-slice-read-t20
-    add-t21
-    shared-slice-read-t23
-    add-t24
-    shared-slice-read-t26
-    add-t27
-    shared-slice-read-t29
+    add-cable-of
+    shared-slice-read-cable-of
+    cable-of-requires
+    add-t22
+    shared-slice-read-t24
+    add-t25
+    shared-slice-read-t27
+    add-t28
+    shared-slice-read-t30
     returns)

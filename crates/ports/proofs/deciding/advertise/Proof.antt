@@ -32,7 +32,7 @@ returns c =
     let x = c .before .before .before .before .args in
     c .no-change .ensures
     ∙ sym (decides (useEndRefusals (x .capacity .0) (x .standing) (x .row) (x .port)) _ (c .before .before .before .use-fault .ensures)
-    (noChange (x .standing)) (changing (x .port) (offering (x .row) (presentBeside (x .capacity .0) (x .standing) (x .row)) (x .row .cable)))
+    (noChange (x .standing)) (changing (x .port) (offering (x .row) (presentBeside (x .capacity .0) (x .standing) (x .row)) (x .row .cable .0)))
     (c .before .if1 .taken))
 
 offered-row-requires : tie.Need-offered-row-requires
@@ -51,7 +51,7 @@ returns-2 c =
     let p = c .before .before in
     let x = p .before .before .before .args in
     c .change-row .ensures
-    ∙ ap (changing (x .port)) {y = offering (x .row) (presentBeside (x .capacity .0) (x .standing) (x .row)) (x .row .cable)} (c .before .offered-row .ensures)
+    ∙ ap (changing (x .port)) {y = offering (x .row) (presentBeside (x .capacity .0) (x .standing) (x .row)) (x .row .cable .0)} (c .before .offered-row .ensures)
     ∙ sym (answered (useEndRefusals (x .capacity .0) (x .standing) (x .row) (x .port)) (use-telling (x .capacity .0) (x .standing) (x .port)
     (x .row)) _ (p .before .before .use-fault .ensures) (p .if1 .left) (noChange (x .standing)) _)
 

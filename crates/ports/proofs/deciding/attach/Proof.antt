@@ -16,9 +16,9 @@ passed : (c : tie.Else1) → NoneApply (portEndRefusals (c .before .before .befo
     (c .before .before .before .args .port))
 passed c =
     let x = c .before .before .before .args in
-    attach-port (x .capacity .0) (x .standing) (x .port) (x .row) (x .cable)
-    (cleared (attachEndRefusals (x .capacity .0) (x .standing) (x .row) (x .port) (x .cable)) (attach-telling (x .capacity .0) (x .standing)
-    (x .port) (x .row) (x .cable)) _ (c .before .before .attach-fault .ensures) (c .if1 .left))
+    attach-port (x .capacity .0) (x .standing) (x .port) (x .row) (x .cable .0)
+    (cleared (attachEndRefusals (x .capacity .0) (x .standing) (x .row) (x .port) (x .cable .0)) (attach-telling (x .capacity .0) (x .standing)
+    (x .port) (x .row) (x .cable .0)) _ (c .before .before .attach-fault .ensures) (c .if1 .left))
 
 attach-fault-requires : tie.Need-attach-fault-requires
 attach-fault-requires c κs = search needs
@@ -31,9 +31,9 @@ unfolding attachChange
 returns c =
     let x = c .before .before .before .before .args in
     c .no-change .ensures
-    ∙ sym (decides (attachEndRefusals (x .capacity .0) (x .standing) (x .row) (x .port) (x .cable)) _
+    ∙ sym (decides (attachEndRefusals (x .capacity .0) (x .standing) (x .row) (x .port) (x .cable .0)) _
     (c .before .before .before .attach-fault .ensures) (noChange (x .standing)) (changing (x .port) (offering (x .row) (presentBeside
-    (x .capacity .0) (x .standing) (x .row)) (x .cable))) (c .before .if1 .taken))
+    (x .capacity .0) (x .standing) (x .row)) (x .cable .0))) (c .before .if1 .taken))
 
 offered-row-requires : tie.Need-offered-row-requires
 offered-row-requires c κs =
@@ -51,9 +51,9 @@ returns-2 c =
     let p = c .before .before in
     let x = p .before .before .before .args in
     c .change-row .ensures
-    ∙ ap (changing (x .port)) {y = offering (x .row) (presentBeside (x .capacity .0) (x .standing) (x .row)) (x .cable)} (c .before .offered-row .ensures)
-    ∙ sym (answered (attachEndRefusals (x .capacity .0) (x .standing) (x .row) (x .port) (x .cable)) (attach-telling (x .capacity .0)
-    (x .standing) (x .port) (x .row) (x .cable)) _ (p .before .before .attach-fault .ensures) (p .if1 .left) (noChange (x .standing)) _)
+    ∙ ap (changing (x .port)) {y = offering (x .row) (presentBeside (x .capacity .0) (x .standing) (x .row)) (x .cable .0)} (c .before .offered-row .ensures)
+    ∙ sym (answered (attachEndRefusals (x .capacity .0) (x .standing) (x .row) (x .port) (x .cable .0)) (attach-telling (x .capacity .0)
+    (x .standing) (x .port) (x .row) (x .cable .0)) _ (p .before .before .attach-fault .ensures) (p .if1 .left) (noChange (x .standing)) _)
 
 pub attach-spec : {M : Type 1} → statement M
 attach-spec =

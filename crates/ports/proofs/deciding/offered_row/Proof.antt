@@ -17,7 +17,7 @@ returns : tie.Need-returns
 unfolding offering
 returns c =
     let x = c .before .before .before .before .args in
-    ap (λ (n : ℕ). offering (x .old) n (x .cable)) (c .smaller .ensures ∙ ap (min (x .old .max .0)) (c .before .left-for .ensures))
+    ap (λ (n : ℕ). offering (x .old) n (x .cable .0)) (c .smaller .ensures ∙ ap (min (x .old .max .0)) (c .before .left-for .ensures))
 
 pub offered-row-spec : {M : Type 1} → statement M
 offered-row-spec = tie.close (tie.spec left-for-requires smaller-requires returns)

@@ -17,7 +17,7 @@ rule-pps-requires c κs = search needs
 
 returns : tie.Need-returns
 unfolding ruleProfile
-returns c = ap (with-pps (c .before .before .before .args .row)) (c .rule-pps .ensures)
+returns c = ap (with-pps (c .before .before .before .before .args .row)) (c .rule-pps .ensures)
 
 pub rule-profile-spec : {M : Type 1} → statement M
 rule-profile-spec = tie.close (tie.spec rule-pps-requires returns)

@@ -17,12 +17,12 @@ use Rattle.ports.proofs.refusing.attach_fault.Tie as tie
 
 past-port : (c : tie.Else1) → verdictOf (attachEndRefusals (c .before .before .before .args .capacity .0)
     (c .before .before .before .args .standing) (c .before .before .before .args .row) (c .before .before .before .args .port)
-    (c .before .before .before .args .cable)) ≡ verdictOf (cannotAttach (c .before .before .before .args .row)
-    (c .before .before .before .args .port) (c .before .before .before .args .cable))
+    (c .before .before .before .args .cable .0)) ≡ verdictOf (cannotAttach (c .before .before .before .args .row)
+    (c .before .before .before .args .port) (c .before .before .before .args .cable .0))
 past-port c =
     let x = c .before .before .before .args in
     left-to (portEndRefusals (x .capacity .0) (x .standing) (x .port)) (port-telling (x .capacity .0) (x .standing) (x .port)) _
-    (c .before .before .port-fault .ensures) (c .if1 .left) verdict success (cannotAttach (x .row) (x .port) (x .cable))
+    (c .before .before .port-fault .ensures) (c .if1 .left) verdict success (cannotAttach (x .row) (x .port) (x .cable .0))
 
 port-fault-requires : tie.Need-port-fault-requires
 port-fault-requires c κs = search needs
@@ -31,7 +31,7 @@ returns : tie.Need-returns
 returns c =
     let x = c .before .before .before .args in
     sym (stops-at (portEndRefusals (x .capacity .0) (x .standing) (x .port)) _ (c .before .before .port-fault .ensures) verdict success
-    (cannotAttach (x .row) (x .port) (x .cable)) (c .if1 .taken))
+    (cannotAttach (x .row) (x .port) (x .cable .0)) (c .if1 .taken))
 
 bad-cable-requires : tie.Need-bad-cable-requires
 bad-cable-requires c κs = search needs
@@ -54,7 +54,7 @@ returns-3 c =
     c .verdict-at2 .ensures
     ∙ sym (past-port p
     ∙ miss verdict success 3 0 _ (sym (q .before .bad-cable .ensures) ∙ q .if2 .left)
-    ∙ hit verdict success 34 _ [] (ap not (ne-eqb (x .row .cable) 0 (c .before .if3 .taken))))
+    ∙ hit verdict success 34 _ [] (ap not (ne-eqb (x .row .cable .0) 0 (c .before .if3 .taken))))
 
 returns-4 : tie.Need-returns-4
 returns-4 c =
@@ -65,7 +65,7 @@ returns-4 c =
     (p .before .before .port-fault .ensures) (p .if1 .left)
     ∙ sym (past-port p
     ∙ miss verdict success 3 0 _ (sym (q .before .bad-cable .ensures) ∙ q .if2 .left)
-    ∙ miss verdict success 34 (x .port) [] (ap not (eq-eqb (x .row .cable) 0 (c .if3 .left)))
+    ∙ miss verdict success 34 (x .port) [] (ap not (eq-eqb (x .row .cable .0) 0 (c .if3 .left)))
     ∙ all-missed verdict success [] tt)
 
 pub attach-fault-spec : {M : Type 1} → statement M

@@ -41,7 +41,7 @@ returns-2 c =
     let x = p .before .before .before .args in
     c .verdict-at .ensures
     ∙ sym (past-port p
-    ∙ hit verdict success 35 _ [] (ap (λ (b : Bool). not (not b)) (eq-eqb (x .row .cable) 0 (c .before .if2 .taken))))
+    ∙ hit verdict success 35 _ [] (ap (λ (b : Bool). not (not b)) (eq-eqb (x .row .cable .0) 0 (c .before .if2 .taken))))
 
 returns-3 : tie.Need-returns-3
 returns-3 c =
@@ -50,7 +50,7 @@ returns-3 c =
     succeeded (portEndRefusals (x .capacity .0) (x .standing) (x .port)) (port-telling (x .capacity .0) (x .standing) (x .port)) _
     (p .before .before .port-fault .ensures) (p .if1 .left)
     ∙ sym (past-port p
-    ∙ miss verdict success 35 (x .port) [] (ap (λ (b : Bool). not (not b)) (ne-eqb (x .row .cable) 0 (c .if2 .left)))
+    ∙ miss verdict success 35 (x .port) [] (ap (λ (b : Bool). not (not b)) (ne-eqb (x .row .cable .0) 0 (c .if2 .left)))
     ∙ all-missed verdict success [] tt)
 
 pub use-fault-spec : {M : Type 1} → statement M

@@ -22,7 +22,7 @@ returns : tie.Need-returns
 returns c =
     let t = c .before in
     let x = t .before .before .args in
-    c .allowed-above-3-a .ensures ∙ sym (above-3-A (x .p) (x .volts) (x .current .0) (is-above t .0) (is-above t .1))
+    c .allowed-above-3-a .ensures ∙ sym (above-3-A (x .p) (x .volts) (x .current .0) (sym (t .before .above-3-a .ensures) ∙ t .if1 .taken))
 
 either-rounding-requires : tie.Need-either-rounding-requires
 either-rounding-requires c κs = search needs
@@ -30,10 +30,9 @@ either-rounding-requires c κs = search needs
 returns-2 : tie.Need-returns-2
 returns-2 c =
     let e = c .before in
-    let s = e .before .before in
-    let x = s .args in
+    let x = e .before .before .args in
     c .either-rounding .ensures
-    ∙ sym (not-above-3-A (x .p) (x .volts) (x .current .0) (s .pre .1) (sym (e .before .above-3-a .ensures) ∙ e .if1 .left))
+    ∙ sym (not-above-3-A (x .p) (x .volts) (x .current .0) (sym (e .before .above-3-a .ensures) ∙ e .if1 .left))
 
 pub fixed-allowed-spec : {M : Type 1} → statement M
 fixed-allowed-spec =

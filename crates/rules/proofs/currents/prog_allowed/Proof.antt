@@ -45,8 +45,8 @@ returns-2 c =
     (sym (m .may-exceed .ensures) ∙ c .before .before .before .if2 .taken)
     (subst (λ (k : ℕ). x .current .0 < k) (built b) (c .if3 .taken)))
 
-cable-50-requires : tie.Need-cable-50-requires
-cable-50-requires c κs = search needs
+cable-in-whole-50-ma-requires : tie.Need-cable-in-whole-50-ma-requires
+cable-in-whole-50-ma-requires c κs = search needs
 
 smaller-50-requires-2 : tie.Need-smaller-50-requires-2
 smaller-50-requires-2 c κs = search needs
@@ -59,7 +59,7 @@ returns-3 c =
     let n = u .before .before in
     let b = n .before .before .before in
     let x = start b .args in
-    ap (leb (x .current .0)) (t .smaller-502 .ensures ∙ ap₂ min (b .before .before .prog-down .ensures) (t .before .cable-50 .ensures))
+    ap (leb (x .current .0)) (t .smaller-502 .ensures ∙ ap₂ min (b .before .before .prog-down .ensures) (t .before .cable-in-whole-50-ma .ensures))
     ∙ sym (by-cable (x .p) (x .volts) (x .current .0) (λ e. n .if1 .left (e ∙ sym (built b)))
     (sym (u .before .may-exceed .ensures) ∙ u .if2 .taken)
     (subst (λ (k : ℕ). k ≤ x .current .0) (built b) (f .if3 .left)))
@@ -82,7 +82,7 @@ prog-allowed-spec =
     returns
     may-exceed-requires
     returns-2
-    cable-50-requires
+    cable-in-whole-50-ma-requires
     smaller-50-requires-2
     returns-3
     returns-4)

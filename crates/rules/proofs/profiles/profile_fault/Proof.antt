@@ -25,7 +25,7 @@ max-fine c = sym (c .before .outside .ensures) ∙ c .if1 .left
 present-fine : (c : tie.Else2) → not (within 1 (start c .args .max .0) (start c .args .present .0)) ≡ false
 present-fine c = sym (c .before .outside2 .ensures) ∙ c .if2 .left
 
-cable-fine : (c : tie.Else3) → badCable (start (c .before .before) .args .cable) ≡ false
+cable-fine : (c : tie.Else3) → badCable (start (c .before .before) .args .cable .0) ≡ false
 cable-fine c = sym (c .before .bad-cable .ensures) ∙ c .if3 .left
 
 choices-fine : (c : tie.Else5) → (ltb 1 (start (c .before .before .before .before) .args .rounding) || ltb 1 (start (c .before .before .before .before) .args .pps)) ≡ false
@@ -39,7 +39,7 @@ outside-requires c κs = search needs
 returns : tie.Need-returns
 returns c =
     let x = c .before .before .args in
-    number (fault-1 (x .max .0) (x .present .0) (x .cable) (x .rounding) (x .pps) (x .flags) (sym (c .before .outside .ensures) ∙ c .if1 .taken))
+    number (fault-1 (x .max .0) (x .present .0) (x .cable .0) (x .rounding) (x .pps) (x .flags) (sym (c .before .outside .ensures) ∙ c .if1 .taken))
 
 outside-requires-2 : tie.Need-outside-requires-2
 outside-requires-2 c κs = search needs
@@ -48,7 +48,7 @@ returns-2 : tie.Need-returns-2
 returns-2 c =
     let n = c .before .before in
     let x = n .before .before .args in
-    number (fault-2 (x .max .0) (x .present .0) (x .cable) (x .rounding) (x .pps) (x .flags) (max-fine n) (sym (c .before .outside2 .ensures) ∙ c .if2 .taken))
+    number (fault-2 (x .max .0) (x .present .0) (x .cable .0) (x .rounding) (x .pps) (x .flags) (max-fine n) (sym (c .before .outside2 .ensures) ∙ c .if2 .taken))
 
 bad-cable-requires : tie.Need-bad-cable-requires
 bad-cable-requires c κs = search needs
@@ -57,14 +57,14 @@ returns-3 : tie.Need-returns-3
 returns-3 c =
     let n = c .before .before in
     let x = start n .args in
-    number (fault-3 (x .max .0) (x .present .0) (x .cable) (x .rounding) (x .pps) (x .flags) (max-fine (n .before .before)) (present-fine n) (sym (c .before .bad-cable .ensures) ∙ c .if3 .taken))
+    number (fault-3 (x .max .0) (x .present .0) (x .cable .0) (x .rounding) (x .pps) (x .flags) (max-fine (n .before .before)) (present-fine n) (sym (c .before .bad-cable .ensures) ∙ c .if3 .taken))
 
 returns-4 : tie.Need-returns-4
 returns-4 c =
     let k = c .before in
     let n = k .before .before in
     let x = start n .args in
-    number (fault-4 (x .max .0) (x .present .0) (x .cable) (x .rounding) (x .pps) (x .flags) (max-fine (n .before .before)) (present-fine n) (cable-fine k)
+    number (fault-4 (x .max .0) (x .present .0) (x .cable .0) (x .rounding) (x .pps) (x .flags) (max-fine (n .before .before)) (present-fine n) (cable-fine k)
     (ap (λ (b : Bool). b || ltb 1 (x .pps)) (lt-ltb 1 (x .rounding) (c .if4 .taken))))
 
 returns-5 : tie.Need-returns-5
@@ -72,7 +72,7 @@ returns-5 c =
     let k = c .before .before in
     let n = k .before .before in
     let x = start n .args in
-    number (fault-4 (x .max .0) (x .present .0) (x .cable) (x .rounding) (x .pps) (x .flags) (max-fine (n .before .before)) (present-fine n) (cable-fine k)
+    number (fault-4 (x .max .0) (x .present .0) (x .cable .0) (x .rounding) (x .pps) (x .flags) (max-fine (n .before .before)) (present-fine n) (cable-fine k)
     (ap (λ (b : Bool). b || ltb 1 (x .pps)) (le-ltb 1 (x .rounding) (c .before .if4 .left)) ∙ lt-ltb 1 (x .pps) (c .if5 .taken)))
 
 returns-6 : tie.Need-returns-6
@@ -80,14 +80,14 @@ returns-6 c =
     let k = c .before .before .before in
     let n = k .before .before in
     let x = start n .args in
-    number (fault-5 (x .max .0) (x .present .0) (x .cable) (x .rounding) (x .pps) (x .flags) (max-fine (n .before .before)) (present-fine n) (cable-fine k) (choices-fine (c .before)) (lt-ltb 63 _ (c .if6 .taken)))
+    number (fault-5 (x .max .0) (x .present .0) (x .cable .0) (x .rounding) (x .pps) (x .flags) (max-fine (n .before .before)) (present-fine n) (cable-fine k) (choices-fine (c .before)) (lt-ltb 63 _ (c .if6 .taken)))
 
 returns-7 : tie.Need-returns-7
 returns-7 c =
     let k = c .before .before .before in
     let n = k .before .before in
     let x = start n .args in
-    number (no-fault (x .max .0) (x .present .0) (x .cable) (x .rounding) (x .pps) (x .flags) (max-fine (n .before .before)) (present-fine n) (cable-fine k) (choices-fine (c .before)) (le-ltb 63 _ (c .if6 .left)))
+    number (no-fault (x .max .0) (x .present .0) (x .cable .0) (x .rounding) (x .pps) (x .flags) (max-fine (n .before .before)) (present-fine n) (cable-fine k) (choices-fine (c .before)) (le-ltb 63 _ (c .if6 .left)))
 
 pub profile-fault-spec : {M : Type 1} → statement M
 profile-fault-spec =
