@@ -16,6 +16,7 @@ pub mod FlatRoundTrips
 pub mod Unread
 pub mod FlatUnread
 pub mod PowerRules
+pub mod Cables
 pub mod RuleLists
 pub mod AcceptedPower
 pub mod RequestNumbers

@@ -27,6 +27,7 @@ pub mod FlatRoundTrips
 pub mod Unread
 pub mod FlatUnread
 pub mod PowerRules
+pub mod Cables
 pub mod RuleLists
 pub mod RequestNumbers
 pub mod Ignored
