@@ -76,6 +76,14 @@
 #define ARIN_WHOLE_WATTS(half_watts) ((half_watts) / 2u)
 #define ARIN_TENTHS_OF_A_WATT(half_watts) ((half_watts) % 2u * 5u)
 
+/*
+ * A cable is what it carries, as a number of 10 mA. From whole amperes, and from amperes and tenths: ARIN_AMPERES(5) is 500, and
+ * ARIN_AMPERES_AND_TENTHS(2, 5), 2.5 A, is 250. Of a constant they are one too. A cable is 100..500: a bare number of amperes, as 3
+ * or 5, is refused with 3, and never taken for another cable.
+ */
+#define ARIN_AMPERES(amperes) (100 * (amperes))
+#define ARIN_AMPERES_AND_TENTHS(amperes, tenths) (100 * (amperes) + 10 * (tenths))
+
 #include "arinduleu_refusals.h"
 
 #ifdef __cplusplus
@@ -110,7 +118,7 @@ struct arin_verdict {
 struct arin_profile {
     uint16_t max;     /* port maximum, half watts, 1..200 */
     uint16_t present; /* present power, half watts, 1..max */
-    uint8_t cable;    /* amperes, 3 or 5 */
+    uint16_t cable;   /* what it carries, 10 mA, 100..500 */
     uint8_t rounding; /* of the currents: 0 down, 1 up */
     uint8_t pps;      /* PPS wanted, 0 or 1 */
     uint8_t flags;    /* 0..63: bits 29..24 of the first word, such as 8 for unconstrained power, which is bit 27 */
@@ -198,11 +206,14 @@ struct arin_written {
     uint8_t length; /* how many bytes were written, 2..30; 0 on a refusal */
 };
 
-/* One port. Fill in max and pps before set-up; the calls see to the rest. */
+/*
+ * One port. Fill in max and pps before set-up; the calls see to the rest. A byte behind pps belongs to no field: compare rows field
+ * by field.
+ */
 struct arin_row {
     uint16_t max;     /* port maximum, half watts, 15..200 */
     uint8_t pps;      /* PPS wanted, 0 or 1 */
-    uint8_t cable;    /* amperes, 3 or 5; 0 when the port is empty */
+    uint16_t cable;   /* what it carries, 10 mA, 100..500; 0 when the port is empty */
     uint16_t present; /* power that its latest list was made for, half watts; 0 when the port is empty */
     uint16_t held;    /* power kept for it, half watts, at least 15 */
 };
@@ -215,13 +226,13 @@ struct arin_remaining_power {
 /* ---- Lists and requests ---- */
 
 /*
- * The default profile of a port maximum in half watts: present power the maximum, 3 A cable, rounded down, no PPS, no flags.
+ * The default profile of a port maximum in half watts: present power the maximum, cable 300, rounded down, no PPS, no flags.
  * Refusals: 1.
  */
 ARIN_MUST_USE struct arin_profiled arin_default_profile(uint16_t max);
 
 /*
- * The list that a port with this profile advertises.
+ * The list that a port with this profile advertises. No current in it is above the cable.
  * Refusals: 1, 2, 3, 4, 5, 6.
  */
 ARIN_MUST_USE struct arin_listing arin_build(struct arin_profile profile);
@@ -322,11 +333,13 @@ ARIN_MUST_USE struct arin_written arin_write_message(uint8_t *bytes, size_t leng
 ARIN_MUST_USE struct arin_verdict arin_set_up(struct arin_row *rows, size_t count, uint16_t capacity);
 
 /*
- * A cable of 3 or 5 amperes came to an empty port. Sets its present power to the smaller of its maximum and what the other ports
- * leave, and answers the list to send: rounded down, flags 0, with PPS where the row wants it and its present power is its maximum.
- * Refusals: 30, 32, 37 (the first row at fault, or 0), 33, 3, 34 (the row).
+ * A cable came to an empty port, with what it carries in 10 mA: for a captive lead its own rating; for any other cable 500 where its
+ * marker says 5 A, else 300. Sets the present power of the port to the smaller of its maximum and what the other ports leave, and
+ * answers the list to send: no current above the cable, rounded down, flags 0, with PPS where the row wants it and its present power
+ * is its maximum.
+ * Refusals: 30, 32, 37 (the first row at fault, or 0), 33, 3 (the cable is not 100..500), 34 (the row).
  */
-ARIN_MUST_USE struct arin_listing arin_attach(struct arin_row *rows, size_t count, uint16_t capacity, uint8_t port, uint8_t cable);
+ARIN_MUST_USE struct arin_listing arin_attach(struct arin_row *rows, size_t count, uint16_t capacity, uint8_t port, uint16_t cable);
 
 /*
  * The same again for an attached port: its present power anew, and the list to send. Its cable and what it holds stay.

@@ -11,7 +11,7 @@ enum arin_refusal {
     /* A profile. */
     ARIN_PORT_MAXIMUM = 1,      /* port maximum, or the rating of a sink, outside 1..200 */
     ARIN_PRESENT_POWER = 2,     /* present power outside 1..port maximum */
-    ARIN_CABLE = 3,             /* cable not 3 or 5 */
+    ARIN_CABLE = 3,             /* cable outside 100..500, which is 1 A to 5 A */
     ARIN_NOT_A_CHOICE = 4,      /* rounding or PPS wanted above 1; at set-up the place is the row */
     ARIN_FLAGS = 5,             /* flags above 63 */
     ARIN_PPS_BELOW_MAXIMUM = 6, /* PPS wanted and present power below the maximum */

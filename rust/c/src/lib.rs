@@ -119,7 +119,7 @@ pub unsafe extern "C" fn arin_attach(
     count: usize,
     capacity: u16,
     port: u8,
-    cable: u8,
+    cable: u16,
 ) -> Listing {
     board::arin_attach(unsafe { lent(rows, count) }, capacity, port, cable)
 }
