@@ -42,10 +42,16 @@
 //!     let refusal = sink_check(HalfWatts(89), list).ok().unwrap_err();
 //!     assert_eq!(refusal.number(), arinduleu::verdicts::ABOVE_CEILING);
 //!
-//!     // Two ports of 65 W that share 100 W: port 1 gets a 5 A cable.
+//!     // The same port with a lead of its own that carries 2 A: no current is above that. A figure in amperes is refused.
+//!     let own = build(Profile { cable: Ma10(200), ..default }).ok()?;
+//!     assert_eq!(own.as_slice(), [0x0001_90C8, 0x0002_D0C8, 0x0004_B0C8, 0xE003_2000]);
+//!     let refusal = build(Profile { cable: Ma10(2), ..default }).ok().unwrap_err();
+//!     assert_eq!(refusal.number(), arinduleu::verdicts::CABLE);
+//!
+//!     // Two ports of 65 W that share 100 W: port 1 gets a 5 A cable, in 10 mA.
 //!     let mut rows = [Row { max: HalfWatts(130), ..Row::default() }; 2];
 //!     arin_set_up(&mut rows, 200).ok()?;
-//!     let list = arin_attach(&mut rows, 200, 1, 5).ok()?;
+//!     let list = arin_attach(&mut rows, 200, 1, 500).ok()?;
 //!     assert_eq!(list.as_slice()[3], 0x0006_4145);
 //!
 //!     // Its list as the bytes of a Source_Capabilities, to be sent.

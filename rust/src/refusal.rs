@@ -9,8 +9,8 @@ include!(concat!(env!("OUT_DIR"), "/refusals.rs"));
 
 /// Why a call refused: the number of [`verdicts`](crate::verdicts) and the place. It is never a success.
 ///
-/// It shows itself with the sentence of its number: `the cable is neither 3 A nor 5 A (refusal 3)`, or with its place
-/// `the port is in use already (refusal 34, place 2)`.
+/// It shows itself with the sentence of its number: `the cable carries less than 1 A, or more than 5 A (refusal 3)`, or with its
+/// place `the port is in use already (refusal 34, place 2)`.
 #[derive(Clone, Copy, PartialEq, Eq, Hash, PartialOrd, Ord)]
 pub struct Refusal {
     number: NonZeroU8,

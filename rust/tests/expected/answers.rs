@@ -108,7 +108,7 @@ fn sink_lists() {
 
 #[test]
 fn ports_that_share() {
-    fn share(rows: &mut [Row], cable: u8) -> Result<HalfWatts, Refusal> {
+    fn share(rows: &mut [Row], cable: u16) -> Result<HalfWatts, Refusal> {
         board::arin_set_up(rows, 200).ok()?;
         let list = board::arin_attach(rows, 200, 1, cable).ok()?;
         assert_eq!(list.count, 5);
@@ -119,10 +119,13 @@ fn ports_that_share() {
         max: HalfWatts(130),
         ..NO_ROW
     };
-    assert_eq!(share(&mut [row; 2], 5), Ok(HalfWatts(55)));
-    assert_eq!(share(&mut [row; 2], 4), Err(refusal(verdicts::CABLE, 0)));
+    assert_eq!(share(&mut [row; 2], 500), Ok(HalfWatts(55)));
+    for cable in [0, 3, 5, 99, 501, 65535] {
+        let answer = share(&mut [row; 2], cable);
+        assert_eq!(answer, Err(refusal(verdicts::CABLE, 0)), "{cable}");
+    }
     assert_eq!(
-        share(&mut [row; 9], 5),
+        share(&mut [row; 9], 500),
         Err(refusal(verdicts::ROW_COUNT, 0))
     );
     assert_eq!(

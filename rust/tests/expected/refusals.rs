@@ -51,7 +51,7 @@ fn a_number_that_no_call_gives_has_no_sentence_of_its_own() {
 fn it_shows_its_sentence_its_number_and_its_place() {
     assert_eq!(
         refusal(verdicts::CABLE, 0).to_string(),
-        "the cable is neither 3 A nor 5 A (refusal 3)"
+        "the cable carries less than 1 A, or more than 5 A (refusal 3)"
     );
     assert_eq!(
         refusal(verdicts::PORT_IN_USE, 2).to_string(),
