@@ -1,11 +1,11 @@
 //! What the command line asks for. A figure that is well written and out of bounds is not judged here: the library refuses it.
 
 use arinduleu::rules::Profile;
-use arinduleu::steps::HalfWatts;
+use arinduleu::steps::{HalfWatts, Ma10};
 
 pub const HELP: &str = "\
-usage: cargo run -p show -- WATTS [--present WATTS] [--cable 3|5] [--up] [--pps]
-                                  [--flags N]
+usage: cargo run -p show -- WATTS [--present WATTS] [--cable AMPERES] [--up]
+                                  [--pps] [--flags N]
        cargo run -p show -- --words WORD...
 
 Prints the list of a port in words: each object with its volts and amperes, what
@@ -14,7 +14,8 @@ it is the list of `36 --pps`. `./arin show` takes the same words.
 
   WATTS            the port's maximum, 0.5 to 100 in halves: 36, 7.5, 22.5
   --present WATTS  what the port has now, up to its maximum; else its maximum
-  --cable 3|5      amperes of the cable; else 3
+  --cable AMPERES  what the cable carries, 1 to 5, in hundredths: 3, 2.5, 2.25;
+                   else 3
   --up             round currents up, not down
   --pps            with programmable supplies
   --flags N        0 to 63, for bits 29..24 of the first word; else 0
@@ -33,7 +34,7 @@ pub enum Asked {
 
 const CHOSEN: u8 = 1;
 const NOT_CHOSEN: u8 = 0;
-const LEAST_CABLE: u8 = 3;
+const UNMARKED_CABLE: Ma10 = Ma10(300);
 
 // The port of the first listing that README shows.
 const FIRST_LISTING: [&str; 2] = ["36", "--pps"];
@@ -61,7 +62,7 @@ fn port(words: &[&str]) -> Result<Asked, String> {
         let mut value = || left.next().copied().ok_or(format!("{word} lacks its value"));
         match word {
             "--present" => once(&mut present, word, half_watts(value()?)?)?,
-            "--cable" => once(&mut cable, word, small_number(word, value()?)?)?,
+            "--cable" => once(&mut cable, word, amperes(value()?)?)?,
             "--flags" => once(&mut flags, word, small_number(word, value()?)?)?,
             "--up" => once(&mut up, word, CHOSEN)?,
             "--pps" => once(&mut pps, word, CHOSEN)?,
@@ -74,7 +75,7 @@ fn port(words: &[&str]) -> Result<Asked, String> {
     Ok(Asked::Port(Profile {
         max,
         present: present.unwrap_or(max),
-        cable: cable.unwrap_or(LEAST_CABLE),
+        cable: cable.unwrap_or(UNMARKED_CABLE),
         rounding: up.unwrap_or(NOT_CHOSEN),
         pps: pps.unwrap_or(NOT_CHOSEN),
         flags: flags.unwrap_or(0),
@@ -108,6 +109,20 @@ fn half_watts(text: &str) -> Result<HalfWatts, String> {
         .ok_or(format!("'{text}' is not a number of watts in halves, like 36 or 7.5"))?;
     let all = whole.saturating_mul(2).saturating_add(half);
     Ok(HalfWatts(u16::try_from(all).unwrap_or(u16::MAX)))
+}
+
+/// Amperes with no fraction, or with one or two decimals.
+fn amperes(text: &str) -> Result<Ma10, String> {
+    let why = || format!("'{text}' is not a number of amperes in hundredths, like 3 or 2.25");
+    let (whole, fraction) = text.split_once('.').unwrap_or((text, "0"));
+    let step = match fraction.len() {
+        1 => 10,
+        2 => 1,
+        _ => return Err(why()),
+    };
+    let hundredths = step * digits(fraction).ok_or_else(why)?;
+    let all = digits(whole).ok_or_else(why)?.saturating_mul(100).saturating_add(hundredths);
+    Ok(Ma10(u16::try_from(all).unwrap_or(u16::MAX)))
 }
 
 fn small_number(option: &str, text: &str) -> Result<u8, String> {

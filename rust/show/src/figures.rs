@@ -13,6 +13,12 @@ pub fn amperes(ma: u32) -> String {
     format!("{}.{:02} A", ma / 1000, ma % 1000 / 10)
 }
 
+/// From steps of 10 mA, with as many decimals as it takes.
+pub fn cable(n: u16) -> String {
+    let hundredths = format!("{}.{:02}", n / 100, n % 100);
+    format!("{} A", hundredths.trim_end_matches('0').trim_end_matches('.'))
+}
+
 pub fn half_watts(n: u16) -> String {
     let half = match n % 2 {
         0 => "",

@@ -1,7 +1,7 @@
 //! The text against stored ones that were read and worked out by hand, and what is asked, word by word.
 
 use arinduleu::rules::Profile;
-use arinduleu::steps::HalfWatts;
+use arinduleu::steps::{HalfWatts, Ma10};
 
 use crate::asked::{asked, Asked};
 use crate::{figures, told};
@@ -34,6 +34,11 @@ fn of_36_w_with_pps() {
 #[test]
 fn of_65_w_on_a_5_a_cable() {
     same_lines("65 --cable 5 --pps", include_str!("../stored/65_w_5_a_pps.txt"));
+}
+
+#[test]
+fn of_100_w_on_a_lead_of_2_a() {
+    same_lines("100 --cable 2 --pps", include_str!("../stored/100_w_2_a_pps.txt"));
 }
 
 #[test]
@@ -75,8 +80,9 @@ fn at_15_v_the_larger_current_limits_whichever_it_is() {
 
 #[test]
 fn no_line_is_wider_than_a_terminal_and_no_picture_is_tall() {
+    let cables = ["--cable 1 --pps", "--cable 2.25 --up", "--cable 4.99 --pps", "--cable 5 --pps"];
     for half_watts in 1..=200 {
-        for options in ["", "--pps", "--cable 5 --pps", "--cable 5 --up --flags 63"] {
+        for options in ["", "--pps", "--cable 5 --up --flags 63"].into_iter().chain(cables) {
             let line = format!("{}.{} {options}", half_watts / 2, half_watts % 2 * 5);
             let text = text_of(&line).unwrap();
             for shown in text.lines() {
@@ -96,7 +102,7 @@ fn each_word_is_asked_for_what_it_says() {
     let profile = Profile {
         max: HalfWatts(45),
         present: HalfWatts(15),
-        cable: 5,
+        cable: Ma10(500),
         rounding: 1,
         pps: 0,
         flags: 9,
@@ -108,6 +114,35 @@ fn each_word_is_asked_for_what_it_says() {
         Ok(Asked::List(vec![0x0001_912C, 0xE003_C000]))
     );
     assert_eq!(asked(&words("36 --help")), Ok(Asked::Help));
+}
+
+/// From 1 A to 5 A, each hundredth, and as it is shown.
+#[test]
+fn a_cable_is_asked_for_in_amperes() {
+    for (said, figure, shown) in [
+        ("1", 100, "1 A"),
+        ("1.0", 100, "1 A"),
+        ("1.01", 101, "1.01 A"),
+        ("2.04", 204, "2.04 A"),
+        ("2.5", 250, "2.5 A"),
+        ("2.50", 250, "2.5 A"),
+        ("3", 300, "3 A"),
+        ("4.99", 499, "4.99 A"),
+        ("5.00", 500, "5 A"),
+        ("05", 500, "5 A"),
+    ] {
+        let line = format!("36 --cable {said}");
+        let Ok(Asked::Port(profile)) = asked(&words(&line)) else {
+            panic!("{line}");
+        };
+        assert_eq!(profile.cable, Ma10(figure), "{line}");
+        let text = text_of(&line).unwrap();
+        assert!(text.starts_with(&format!("A 36 W port, {shown} cable, ")), "{line}: {text}");
+    }
+    for figure in 100..=500 {
+        let line = format!("36 --cable {}.{:02}", figure / 100, figure % 100);
+        assert!(text_of(&line).is_ok(), "{line}");
+    }
 }
 
 #[test]
@@ -122,7 +157,16 @@ fn what_cannot_be_read_is_told() {
         ("36 45", "the port's watts given twice"),
         ("--pps", "the port's watts are missing"),
         ("36 --cable", "--cable lacks its value"),
-        ("36 --cable five", "--cable takes a number, not 'five'"),
+        ("36 --cable five", "'five' is not a number of amperes in hundredths, like 3 or 2.25"),
+        ("36 --cable 2.255", "'2.255' is not"),
+        ("36 --cable 2.000", "'2.000' is not"),
+        ("36 --cable 2.", "'2.' is not"),
+        ("36 --cable .5", "'.5' is not"),
+        ("36 --cable 2,5", "'2,5' is not"),
+        ("36 --cable 2.5.1", "'2.5.1' is not"),
+        ("36 --cable +3", "'+3' is not"),
+        ("36 --cable 3.-1", "'3.-1' is not"),
+        ("36 --cable 3A", "'3A' is not"),
         ("36 --cable 3 --cable 3", "--cable given twice"),
         ("36 --pps --pps", "--pps given twice"),
         ("36 --watts", "unknown option '--watts'"),
@@ -145,8 +189,14 @@ fn the_library_refuses_in_a_sentence() {
         ("99999999999999999999", "refused (1): the port maximum"),
         ("32768", "refused (1): the port maximum"),
         ("36 --present 36.5", "refused (2): the present power is outside"),
-        ("36 --cable 4", "refused (3): the cable is neither 3 A nor 5 A"),
-        ("36 --cable 259", "refused (3): the cable is neither"),
+        ("36 --cable 0.99", "refused (3): the cable carries less than 1 A, or more than 5 A"),
+        ("36 --cable 5.01", "refused (3): the cable carries less than 1 A"),
+        ("36 --cable 0", "refused (3): the cable"),
+        ("36 --cable 300", "refused (3): the cable"),
+        // In 16 bits they would be 3.00 A.
+        ("36 --cable 658.36", "refused (3): the cable"),
+        ("36 --cable 42949675.96", "refused (3): the cable"),
+        ("36 --cable 99999999999999999999", "refused (3): the cable"),
         ("36 --flags 64", "refused (5): the flags are above 63"),
         ("36 --present 27 --pps", "refused (6): PPS is wanted while"),
         ("--words", "refused (10): the count of a list is outside 1 to 7"),
@@ -182,6 +232,10 @@ fn figures_are_exact() {
     assert_eq!(figures::volts(5050), "5.05");
     assert_eq!(figures::amperes(2670), "2.67 A");
     assert_eq!(figures::amperes(50), "0.05 A");
+    assert_eq!(figures::cable(100), "1 A");
+    assert_eq!(figures::cable(300), "3 A");
+    assert_eq!(figures::cable(250), "2.5 A");
+    assert_eq!(figures::cable(204), "2.04 A");
     assert_eq!(figures::watts(15_000 * 2660), "39.9 W");
     assert_eq!(figures::watts(50 * 10), "0.0005 W");
     assert_eq!(figures::watts(20_000 * 5000), "100 W");

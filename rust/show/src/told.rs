@@ -32,7 +32,7 @@ fn port_in_words(profile: Profile) -> String {
     if profile.present != profile.max {
         write!(text, " that has {} now", figures::half_watts(profile.present.0)).unwrap();
     }
-    write!(text, ", {} A cable", profile.cable).unwrap();
+    write!(text, ", {} cable", figures::cable(profile.cable.0)).unwrap();
     text.push_str(if profile.rounding == 0 {
         ", currents rounded down"
     } else {

@@ -24,7 +24,9 @@ fn a_listing_goes_to_standard_output() {
 
 #[test]
 fn a_refusal_ends_with_1_and_bad_usage_with_2() {
-    ends(&["36", "--cable", "4"], 1, "show: refused (3): the cable is neither 3 A nor 5 A");
+    let refused = "show: refused (3): the cable carries less than 1 A, or more than 5 A";
+    ends(&["36", "--cable", "0.99"], 1, refused);
+    ends(&["36", "--cable", "2.255"], 2, "show: '2.255' is not a number of amperes");
     ends(&["7.3"], 2, "show: '7.3' is not a number of watts");
     ends(&["36", "x"], 2, "show: 'x' is not a number of watts");
 }
