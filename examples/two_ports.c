@@ -7,8 +7,8 @@
 
 #include "arinduleu.h"
 
-/* Powers are in half watts. */
-enum { PORTS = 2, CAPACITY = ARIN_WATTS(100), PORT_MAXIMUM = ARIN_WATTS(65), CABLE_5_A = 5 };
+/* Powers are in half watts, and what a cable carries is in 10 mA. */
+enum { PORTS = 2, CAPACITY = ARIN_WATTS(100), PORT_MAXIMUM = ARIN_WATTS(65), CABLE_5_A = ARIN_AMPERES(5) };
 
 static struct arin_row rows[PORTS];
 
@@ -183,7 +183,8 @@ int main(void)
     print_remaining();
 
     printf("port 1: attached\n");
-    /* The stack found a sink, and read from the cable's marker that it takes 5 A. An unmarked cable counts as 3 A. */
+    /* The stack found a sink, and read from the cable's marker that it takes 5 A. An unmarked cable counts as 3 A,
+     * and the charger's own lead as what it is made for. */
     send_list(1, arin_attach(rows, PORTS, CAPACITY, 1, CABLE_5_A));
     printf("port 1: asks for 20 V at 3.25 A\n");
     ask(1, 4, 325);

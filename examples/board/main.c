@@ -3,17 +3,17 @@
  * controller, puts bytes into one queue and takes bytes from the other. Here outside.c plays it.
  *
  *   to the charger                                    back
- *   A port cable  a sink came; the cable takes 3      L port n words    send these n words as Source_Capabilities
- *                 or 5 amperes
+ *   A port cable  a sink came; the cable carries      L port n words    send these n words as Source_Capabilities
+ *                 so much, in 10 mA
  *   R port word   the sink sent this Request          Y port            send Accept, go to the new voltage, send PS_RDY, say P
  *                                                     W port            send Wait, or Reject where there is no contract yet
  *                                                     N port number     send Reject; the number is the refusal's
  *   P port        the port is at its new voltage      L port n words    for each other port that can have more now
  *   D port        the sink is gone, the voltage off   L port n words    likewise
  *
- * Ports count from 1, and words go low byte first. Behind what comes back for an event stands a dot. F number place is a refusal that no sink
- * has a part in (README, "Whose fault a refusal is"): at 37 take the voltage off every port. ? byte is a byte that begins no event. A hard
- * reset is D and then A.
+ * Ports count from 1. A cable is two bytes and a word four, the low byte first. Behind what comes back for an event stands a dot. F number
+ * place is a refusal that no sink has a part in (README, "Whose fault a refusal is"): at 37 take the voltage off every port. ? byte is a byte
+ * that begins no event. A hard reset is D and then A.
  */
 #include "arinduleu.h"
 #include "queue.h"
@@ -66,6 +66,13 @@ static uint8_t take(void)
         wait_for_interrupt();
     release_interrupts();
     return byte;
+}
+
+static uint16_t take_cable(void)
+{
+    uint8_t low = take();
+
+    return (uint16_t)(low | take() << 8);
 }
 
 static uint32_t take_word(void)
@@ -193,7 +200,7 @@ static void serve(uint8_t event)
     switch (event) {
     case 'A':
         port = take();
-        put_list(port, arin_attach(rows, PORTS, CAPACITY, port, take()));
+        put_list(port, arin_attach(rows, PORTS, CAPACITY, port, take_cable()));
         break;
     case 'R':
         port = take();

@@ -38,10 +38,10 @@ static void print_byte(uint8_t byte)
 static const struct {
     uint8_t length, bytes[6];
 } events[] = {
-    { 3, { 'A', 1, 5 } },
+    { 4, { 'A', 1, 0xF4, 0x01 } },             /* a 5 A cable */
     { 6, { 'R', 1, 0x45, 0x15, 0x05, 0x40 } }, /* 20 V at 3.25 A */
     { 2, { 'P', 1 } },
-    { 3, { 'A', 2, 5 } },
+    { 4, { 'A', 2, 0xF4, 0x01 } },
     { 6, { 'R', 2, 0x2C, 0xB1, 0x04, 0x20 } }, /* 9 V at 3 A */
     { 2, { 'P', 2 } },
     { 6, { 'R', 1, 0xC8, 0x20, 0x03, 0x20 } }, /* 9 V at 2 A */
@@ -53,7 +53,8 @@ static const struct {
     { 6, { 'R', 1, 0x45, 0x15, 0x05, 0x40 } }, /* not on the new list */
     { 2, { 'D', 2 } },                         /* port 1 can have more */
     { 2, { 'D', 2 } },                         /* it is empty already */
-    { 3, { 'A', 3, 5 } },                      /* there is no port 3 */
+    { 4, { 'A', 2, 0x05, 0x00 } },             /* 5 are 50 mA, and no cable */
+    { 4, { 'A', 3, 0xF4, 0x01 } },             /* there is no port 3 */
     { 6, { 'R', 0, 0x2C, 0xB1, 0x04, 0x20 } }, /* and no port 0 */
     { 2, { 'P', 3 } },
     { 1, { 'X' } },
