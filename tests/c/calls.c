@@ -6,7 +6,7 @@
 
 /* ---- Making ---- */
 
-static struct arin_profile profile(uint16_t max, uint16_t present, uint8_t cable, uint8_t rounding, uint8_t pps, uint8_t flags)
+static struct arin_profile profile(uint16_t max, uint16_t present, uint16_t cable, uint8_t rounding, uint8_t pps, uint8_t flags)
 {
     struct arin_profile p;
 
@@ -130,7 +130,7 @@ static struct buffer laid(struct arin_message m)
     return b;
 }
 
-static struct arin_row row(uint16_t max, uint8_t pps_wanted, uint8_t cable, uint16_t present, uint16_t held)
+static struct arin_row row(uint16_t max, uint8_t pps_wanted, uint16_t cable, uint16_t present, uint16_t held)
 {
     struct arin_row r;
 
@@ -292,6 +292,23 @@ static void watts(void)
     CHECK(ARIN_WHOLE_WATTS(ARIN_WATTS(65)) == 65 && ARIN_TENTHS_OF_A_WATT(ARIN_WATTS(65)) == 0);
 }
 
+#if ARIN_AMPERES(5) != 500 || ARIN_AMPERES_AND_TENTHS(2, 5) != 250
+#error the amperes are no constants for the preprocessor
+#endif
+
+enum { A_CONSTANT_OF_AMPERES = ARIN_AMPERES(3) };
+
+static const struct arin_row by_amperes[] = { { 130, 0, ARIN_AMPERES(1 + 1), 130, 15 },
+                                              { 130, 0, ARIN_AMPERES_AND_TENTHS(1 + 1, 4 + 1), 130, 15 } };
+
+static void amperes(void)
+{
+    CHECK(A_CONSTANT_OF_AMPERES == 300);
+    CHECK(by_amperes[0].cable == 200 && by_amperes[1].cable == 250);
+    CHECK(ARIN_AMPERES_AND_TENTHS(1, 0) == ARIN_AMPERES(1) && ARIN_AMPERES_AND_TENTHS(0, 9) == 90);
+    CHECK(is(arin_remaining(by_amperes, 2, 200).verdict, 0, 0));
+}
+
 #define TEXT(words) #words
 #define TEXT_OF(macro) TEXT(macro)
 
@@ -308,11 +325,11 @@ static void default_profiles(void)
     struct arin_profile none = profile(0, 0, 0, 0, 0, 0);
     struct arin_profiled p = arin_default_profile(72);
 
-    CHECK(is(p.verdict, ARIN_SUCCESS, 0) && is_profile(p.profile, profile(72, 72, 3, 0, 0, 0)));
+    CHECK(is(p.verdict, ARIN_SUCCESS, 0) && is_profile(p.profile, profile(72, 72, 300, 0, 0, 0)));
     p = arin_default_profile(1);
-    CHECK(is(p.verdict, 0, 0) && is_profile(p.profile, profile(1, 1, 3, 0, 0, 0)));
+    CHECK(is(p.verdict, 0, 0) && is_profile(p.profile, profile(1, 1, 300, 0, 0, 0)));
     p = arin_default_profile(200);
-    CHECK(is(p.verdict, 0, 0) && is_profile(p.profile, profile(200, 200, 3, 0, 0, 0)));
+    CHECK(is(p.verdict, 0, 0) && is_profile(p.profile, profile(200, 200, 300, 0, 0, 0)));
     p = arin_default_profile(0);
     CHECK(is(p.verdict, ARIN_PORT_MAXIMUM, 0) && is_profile(p.profile, none));
     p = arin_default_profile(201);
@@ -328,11 +345,11 @@ static struct arin_listing by_max(uint16_t max)
 
 static void builds(void)
 {
-    CHECK(lists(arin_build(profile(72, 72, 3, 0, 1, 0)), list_36_w()));
-    CHECK(lists(arin_build(profile(160, 130, 5, 0, 0, 0)), list_l()));
-    CHECK(lists(arin_build(profile(160, 80, 5, 1, 0, 0)),
+    CHECK(lists(arin_build(profile(72, 72, 300, 0, 1, 0)), list_36_w()));
+    CHECK(lists(arin_build(profile(160, 130, 500, 0, 0, 0)), list_l()));
+    CHECK(lists(arin_build(profile(160, 80, 500, 1, 0, 0)),
                 words(5, 0x0001912C, 0x0002D12C, 0x0004B10B, 0x000640C8, 0xE0042CC8, 0)));
-    CHECK(lists(arin_build(profile(30, 30, 3, 0, 0, 63)), words(1, 0x3F01912C, 0, 0, 0, 0, 0)));
+    CHECK(lists(arin_build(profile(30, 30, 300, 0, 0, 63)), words(1, 0x3F01912C, 0, 0, 0, 0, 0)));
     CHECK(lists(by_max(30), words(1, 0x0001912C, 0, 0, 0, 0, 0)));
     CHECK(lists(by_max(31), words(2, 0x0001912C, 0x0002D0AC, 0, 0, 0, 0)));
     CHECK(lists(by_max(54), words(2, 0x0001912C, 0x0002D12C, 0, 0, 0, 0)));
@@ -345,36 +362,153 @@ static void builds(void)
 /* Each profile has all the faults that come later, so the order shows too. */
 static void builds_none(void)
 {
-    CHECK(no_list(arin_build(profile(0, 1, 4, 2, 2, 64)), ARIN_PORT_MAXIMUM, 0));
-    CHECK(no_list(arin_build(profile(201, 202, 4, 2, 2, 64)), 1, 0));
-    CHECK(no_list(arin_build(profile(72, 73, 4, 2, 2, 64)), ARIN_PRESENT_POWER, 0));
-    CHECK(no_list(arin_build(profile(72, 0, 4, 2, 2, 64)), 2, 0));
-    CHECK(no_list(arin_build(profile(72, 71, 4, 2, 2, 64)), ARIN_CABLE, 0));
-    CHECK(no_list(arin_build(profile(72, 71, 5, 2, 1, 64)), ARIN_NOT_A_CHOICE, 0));
-    CHECK(no_list(arin_build(profile(72, 71, 5, 1, 2, 64)), 4, 0));
-    CHECK(no_list(arin_build(profile(72, 71, 5, 1, 1, 64)), ARIN_FLAGS, 0));
-    CHECK(no_list(arin_build(profile(72, 71, 5, 1, 1, 63)), ARIN_PPS_BELOW_MAXIMUM, 0));
+    CHECK(no_list(arin_build(profile(0, 1, 99, 2, 2, 64)), ARIN_PORT_MAXIMUM, 0));
+    CHECK(no_list(arin_build(profile(201, 202, 99, 2, 2, 64)), 1, 0));
+    CHECK(no_list(arin_build(profile(72, 73, 99, 2, 2, 64)), ARIN_PRESENT_POWER, 0));
+    CHECK(no_list(arin_build(profile(72, 0, 99, 2, 2, 64)), 2, 0));
+    CHECK(no_list(arin_build(profile(72, 71, 99, 2, 2, 64)), ARIN_CABLE, 0));
+    CHECK(no_list(arin_build(profile(72, 71, 500, 2, 1, 64)), ARIN_NOT_A_CHOICE, 0));
+    CHECK(no_list(arin_build(profile(72, 71, 500, 1, 2, 64)), 4, 0));
+    CHECK(no_list(arin_build(profile(72, 71, 500, 1, 1, 64)), ARIN_FLAGS, 0));
+    CHECK(no_list(arin_build(profile(72, 71, 500, 1, 1, 63)), ARIN_PPS_BELOW_MAXIMUM, 0));
 }
 
 static void checks(void)
 {
-    struct arin_profile p = profile(160, 130, 5, 0, 0, 0);
+    struct arin_profile p = profile(160, 130, 500, 0, 0, 0);
     struct arin_words low = words(5, 0x0001912C, 0x0002D12C, 0x0004B12C, 0x00064144, 0xE004B144, 0);
 
     CHECK(is(arin_check(p, list_l()), 0, 0));
-    CHECK(is(arin_check(profile(72, 72, 3, 0, 0, 0), list_36_w()), 0, 0));
+    CHECK(is(arin_check(profile(72, 72, 300, 0, 0, 0), list_36_w()), 0, 0));
     /* 6 is the builder's alone. */
-    CHECK(is(arin_check(profile(160, 130, 5, 0, 1, 0), list_l()), 0, 0));
-    CHECK(is(arin_check(profile(0, 1, 4, 2, 2, 64), words(0, 0, 0, 0, 0, 0, 0)), 1, 0));
-    CHECK(is(arin_check(profile(72, 73, 4, 2, 2, 64), list_36_w()), 2, 0));
-    CHECK(is(arin_check(profile(72, 72, 4, 2, 2, 64), list_36_w()), 3, 0));
-    CHECK(is(arin_check(profile(72, 72, 3, 2, 2, 64), list_36_w()), 4, 0));
-    CHECK(is(arin_check(profile(72, 72, 3, 0, 0, 64), list_36_w()), 5, 0));
+    CHECK(is(arin_check(profile(160, 130, 500, 0, 1, 0), list_l()), 0, 0));
+    CHECK(is(arin_check(profile(0, 1, 99, 2, 2, 64), words(0, 0, 0, 0, 0, 0, 0)), 1, 0));
+    CHECK(is(arin_check(profile(72, 73, 99, 2, 2, 64), list_36_w()), 2, 0));
+    CHECK(is(arin_check(profile(72, 72, 99, 2, 2, 64), list_36_w()), 3, 0));
+    CHECK(is(arin_check(profile(72, 72, 300, 2, 2, 64), list_36_w()), 4, 0));
+    CHECK(is(arin_check(profile(72, 72, 300, 0, 0, 64), list_36_w()), 5, 0));
     CHECK(is(arin_check(p, words(0, 0, 0, 0, 0, 0, 0)), ARIN_COUNT, 0));
     CHECK(is(arin_check(p, words(2, 0x0001912C, 0x0001912C, 0, 0, 0, 0)), ARIN_ORDER, 2));
     CHECK(is(arin_check(p, list_36_w()), ARIN_WRONG_SET, 0));
-    CHECK(is(arin_check(profile(72, 71, 3, 0, 0, 0), list_36_w()), 18, 0));
+    CHECK(is(arin_check(profile(72, 71, 300, 0, 0, 0), list_36_w()), 18, 0));
     CHECK(is(arin_check(p, low), ARIN_CURRENT_NOT_ALLOWED, 4));
+}
+
+/* What is no cable: amperes, one step past each end, and figures that would be a cable, or none, in 8 bits. */
+static const uint16_t no_cables[] = { 0, 1, 3, 5, 99, 501, 512, 512 + 200, 65535 };
+
+enum { NO_CABLES = sizeof no_cables / sizeof no_cables[0] };
+
+static void cables_refused(void)
+{
+    int i;
+
+    for (i = 0; i < NO_CABLES; i++) {
+        struct arin_row r[2];
+
+        CHECK(no_list(arin_build(profile(72, 72, no_cables[i], 0, 1, 0)), ARIN_CABLE, 0));
+        CHECK(no_list(arin_build(profile(72, 72, no_cables[i], 2, 2, 64)), 3, 0));
+        CHECK(is(arin_check(profile(72, 72, no_cables[i], 0, 1, 0), list_36_w()), 3, 0));
+        CHECK(is(arin_check(profile(72, 72, no_cables[i], 2, 2, 64), words(0, 0, 0, 0, 0, 0, 0)), 3, 0));
+        r[0] = row(130, 0, 500, 130, 15);
+        r[1] = row(130, 0, 0, 0, 15);
+        CHECK(no_list(arin_attach(r, 2, 200, 2, no_cables[i]), 3, 0));
+        /* 3 comes before 34. */
+        CHECK(no_list(arin_attach(r, 2, 200, 1, no_cables[i]), 3, 0));
+        CHECK(is_row(r[0], row(130, 0, 500, 130, 15)) && is_row(r[1], row(130, 0, 0, 0, 15)));
+    }
+}
+
+/* Every cable that there is: 100 W with PPS, whose 5, 9 and 15 V have 3 A and whose 20 V has 5 A where the cable carries it. */
+static void cables_built(void)
+{
+    uint16_t cable;
+
+    for (cable = 100; cable <= 500; cable++) {
+        const struct arin_profile p = profile(200, 200, cable, 0, 1, 0);
+        const uint32_t low = cable < 300 ? cable : 300, high = cable;
+        const struct arin_words wanted = words(6, 0x00019000 | low, 0x0002D000 | low, 0x0004B000 | low, 0x00064000 | high,
+                                               0xE0000000 | low << 10 | high, 0xC9A43200 | high / 5);
+        struct arin_row r[1];
+
+        CHECK(lists(arin_build(p), wanted) && is(arin_check(p, wanted), 0, 0));
+        r[0] = row(200, 1, 0, 0, 15);
+        CHECK(lists(arin_attach(r, 1, 200, 1, cable), wanted) && is_row(r[0], row(200, 1, cable, 200, 15)));
+    }
+}
+
+/* A list of 100 W without PPS, with these currents. */
+static struct arin_words with_currents(uint32_t at_5_v, uint32_t at_9_v, uint32_t at_15_v, uint32_t at_20_v)
+{
+    return words(5, 0x00019000 | at_5_v, 0x0002D000 | at_9_v, 0x0004B000 | at_15_v, 0x00064000 | at_20_v,
+                 0xE0000000 | at_15_v << 10 | at_20_v, 0);
+}
+
+/* A captive lead of 2 A, and one of 4 A: each end of what is allowed, and one step past it. */
+static void leads(void)
+{
+    const struct arin_profile two = profile(200, 200, ARIN_AMPERES(2), 0, 0, 0), four = profile(200, 200, ARIN_AMPERES(4), 0, 0, 0);
+    /* 20 W left of 100: 5 V at 4.00 A, 9 V between 2.22 and 2.23 A, 15 V between 1.33 and 1.34 A, 20 V at 1 A, before any cut. */
+    const struct arin_profile less = profile(200, 40, ARIN_AMPERES(2), 1, 0, 0);
+
+    CHECK(lists(arin_build(two), with_currents(200, 200, 200, 200)));
+    CHECK(is(arin_check(two, with_currents(200, 200, 200, 200)), 0, 0));
+    CHECK(is(arin_check(two, with_currents(199, 200, 200, 200)), ARIN_CURRENT_NOT_ALLOWED, 1));
+    CHECK(is(arin_check(two, with_currents(201, 200, 200, 200)), 19, 1));
+    CHECK(is(arin_check(two, with_currents(300, 300, 300, 300)), 19, 1));
+    CHECK(is(arin_check(two, with_currents(200, 199, 200, 200)), 19, 2));
+    CHECK(is(arin_check(two, with_currents(200, 201, 200, 200)), 19, 2));
+    CHECK(is(arin_check(two, with_currents(200, 200, 199, 200)), 19, 3));
+    CHECK(is(arin_check(two, with_currents(200, 200, 201, 200)), 19, 3));
+    CHECK(is(arin_check(two, with_currents(200, 200, 200, 199)), 19, 4));
+    CHECK(is(arin_check(two, with_currents(200, 200, 200, 201)), 19, 4));
+
+    CHECK(lists(arin_build(less), with_currents(200, 200, 134, 100)));
+    CHECK(is(arin_check(less, with_currents(200, 200, 133, 100)), 0, 0));
+    CHECK(is(arin_check(less, with_currents(200, 222, 134, 100)), 19, 2));
+    CHECK(is(arin_check(less, with_currents(200, 200, 132, 100)), 19, 3));
+    CHECK(is(arin_check(less, with_currents(200, 200, 135, 100)), 19, 3));
+
+    CHECK(lists(arin_build(four), with_currents(300, 300, 300, 400)));
+    CHECK(is(arin_check(four, with_currents(300, 300, 300, 400)), 0, 0));
+    CHECK(is(arin_check(four, with_currents(400, 400, 400, 400)), 0, 0));
+    CHECK(is(arin_check(four, with_currents(299, 300, 300, 400)), 19, 1));
+    CHECK(is(arin_check(four, with_currents(401, 300, 300, 400)), 19, 1));
+    CHECK(is(arin_check(four, with_currents(300, 299, 300, 400)), 19, 2));
+    CHECK(is(arin_check(four, with_currents(300, 401, 300, 400)), 19, 2));
+    CHECK(is(arin_check(four, with_currents(300, 300, 299, 400)), 19, 3));
+    CHECK(is(arin_check(four, with_currents(300, 300, 401, 400)), 19, 3));
+    CHECK(is(arin_check(four, with_currents(300, 300, 300, 399)), 19, 4));
+    CHECK(is(arin_check(four, with_currents(300, 300, 300, 401)), 19, 4));
+}
+
+/* The list of 40 W with PPS on this cable: its 15 V is at most 2.66 A, and its Progs, in 50 mA, at most 60 and 53. */
+static struct arin_words list_40_w(uint32_t low, uint32_t at_15_v, uint32_t prog_9_v, uint32_t prog_15_v)
+{
+    return words(6, 0x00019000 | low, 0x0002D000 | low, 0x0004B000 | at_15_v, 0xE0000000 | at_15_v << 10, 0xC8DC3200 | prog_9_v,
+                 0xC9403200 | prog_15_v);
+}
+
+/* 9 V Prog of 40 W may go up to 4.40 A, and no further than the cable in whole 50 mA. */
+static void leads_with_pps(void)
+{
+    const struct arin_profile two = profile(80, 80, 200, 0, 1, 0), a_little_more = profile(80, 80, 204, 0, 1, 0);
+    const struct arin_profile four = profile(80, 80, 400, 0, 1, 0), not_quite_four = profile(80, 80, 399, 0, 1, 0);
+
+    CHECK(lists(arin_build(two), list_40_w(200, 200, 40, 40)));
+    CHECK(is(arin_check(two, list_40_w(200, 200, 39, 40)), 19, 5));
+    CHECK(is(arin_check(two, list_40_w(200, 200, 41, 40)), 19, 5));
+    CHECK(is(arin_check(two, list_40_w(200, 200, 40, 39)), 19, 6));
+    CHECK(is(arin_check(two, list_40_w(200, 200, 40, 41)), 19, 6));
+    CHECK(lists(arin_build(a_little_more), list_40_w(204, 204, 40, 40)));
+    CHECK(is(arin_check(a_little_more, list_40_w(204, 204, 41, 40)), 19, 5));
+
+    CHECK(lists(arin_build(four), list_40_w(300, 266, 60, 53)));
+    CHECK(is(arin_check(four, list_40_w(300, 266, 80, 53)), 0, 0));
+    CHECK(is(arin_check(four, list_40_w(300, 266, 59, 53)), 19, 5));
+    CHECK(is(arin_check(four, list_40_w(300, 266, 81, 53)), 19, 5));
+    CHECK(is(arin_check(not_quite_four, list_40_w(300, 266, 79, 53)), 0, 0));
+    CHECK(is(arin_check(not_quite_four, list_40_w(300, 266, 80, 53)), 19, 5));
 }
 
 static void shapes(void)
@@ -611,11 +745,11 @@ static void good_messages(void)
     uint16_t max;
 
     for (max = 1; max <= 200; max++) {
-        struct arin_message m = capabilities(arin_build(profile(max, max, 5, 0, 1, 0)).list);
+        struct arin_message m = capabilities(arin_build(profile(max, max, 500, 0, 1, 0)).list);
 
         CHECK(reads_message(m) && writes_message(m, ARIN_LONGEST_MESSAGE));
     }
-    CHECK(laid(capabilities(arin_build(profile(91, 91, 3, 0, 1, 0)).list)).length == ARIN_LONGEST_MESSAGE);
+    CHECK(laid(capabilities(arin_build(profile(91, 91, 300, 0, 1, 0)).list)).length == ARIN_LONGEST_MESSAGE);
     CHECK(reads_message(capabilities(list_of_three())) && writes_message(capabilities(list_of_three()), ROOM));
     CHECK(reads_message(a_request(0)) && writes_message(a_request(0), ROOM));
     CHECK(reads_message(a_request(0xFFFFFFFF)) && writes_message(a_request(0xFFFFFFFF), ROOM));
@@ -679,7 +813,7 @@ static void refused_by_length(void)
 /* Every type with every count, extended or not. 42 comes before 41 and 53, and these before the list. */
 static void refused_by_header(void)
 {
-    const struct arin_words seven = arin_build(profile(91, 91, 3, 0, 1, 0)).list;
+    const struct arin_words seven = arin_build(profile(91, 91, 300, 0, 1, 0)).list;
     int type, count;
 
     for (type = 0; type < 32; type++) {
@@ -817,67 +951,67 @@ static void no_bytes(uint8_t *bytes)
 
 /* ---- Ports that share ---- */
 
-/* The run of the statement's hand-worked cases: capacity 200, two rows of M 130, 5 A. */
+/* The run of the statement's hand-worked cases: capacity 200, two rows of M 130, cables of 500. */
 static void marked_run(void)
 {
     struct arin_words at_70 = words(5, 0x0001912C, 0x0002D12C, 0x0004B0E9, 0x000640AF, 0xE003A4AF, 0);
     struct arin_row r[2];
 
     r[0] = row(130, 0, 4, 99, 3);
-    r[1] = row(130, 0, 5, 65535, 65535);
+    r[1] = row(130, 0, 65535, 65535, 65535);
     CHECK(is(arin_set_up(r, 2, 200), 0, 0));
     CHECK(is_row(r[0], row(130, 0, 0, 0, 15)) && is_row(r[1], row(130, 0, 0, 0, 15)));
     CHECK(is_power(arin_remaining(r, 2, 200), 0, 0, 170));
 
-    CHECK(lists(arin_attach(r, 2, 200, 1, 5), list_l()));
-    CHECK(is_row(r[0], row(130, 0, 5, 130, 15)) && is_row(r[1], row(130, 0, 0, 0, 15)));
+    CHECK(lists(arin_attach(r, 2, 200, 1, 500), list_l()));
+    CHECK(is_row(r[0], row(130, 0, 500, 130, 15)) && is_row(r[1], row(130, 0, 0, 0, 15)));
     CHECK(is(arin_request(r, 2, 200, 1, ask(4, 325)), 0, 0));
-    CHECK(is_row(r[0], row(130, 0, 5, 130, 130)) && is_row(r[1], row(130, 0, 0, 0, 15)));
+    CHECK(is_row(r[0], row(130, 0, 500, 130, 130)) && is_row(r[1], row(130, 0, 0, 0, 15)));
     CHECK(is_power(arin_remaining(r, 2, 200), 0, 0, 55));
-    CHECK(lists(arin_attach(r, 2, 200, 2, 5), at_70));
-    CHECK(is_row(r[1], row(130, 0, 5, 70, 15)));
+    CHECK(lists(arin_attach(r, 2, 200, 2, 500), at_70));
+    CHECK(is_row(r[1], row(130, 0, 500, 70, 15)));
 
     CHECK(is(arin_request(r, 2, 200, 1, ask(2, 200)), 0, 0));
-    CHECK(is_row(r[0], row(130, 0, 5, 130, 36)));
+    CHECK(is_row(r[0], row(130, 0, 500, 130, 36)));
     CHECK(lists(arin_advertise(r, 2, 200, 2), list_l()));
-    CHECK(is_row(r[1], row(130, 0, 5, 130, 15)));
+    CHECK(is_row(r[1], row(130, 0, 500, 130, 15)));
     CHECK(is(arin_request(r, 2, 200, 2, ask(4, 325)), 0, 0));
-    CHECK(is_row(r[1], row(130, 0, 5, 130, 130)));
+    CHECK(is_row(r[1], row(130, 0, 500, 130, 130)));
     CHECK(is(arin_request(r, 2, 200, 1, ask(4, 325)), ARIN_NO_POWER_NOW, 1));
-    CHECK(is_row(r[0], row(130, 0, 5, 130, 36)) && is_row(r[1], row(130, 0, 5, 130, 130)));
+    CHECK(is_row(r[0], row(130, 0, 500, 130, 36)) && is_row(r[1], row(130, 0, 500, 130, 130)));
     CHECK(is(arin_request(r, 2, 200, 1, ask(2, 300)), 0, 0));
-    CHECK(is_row(r[0], row(130, 0, 5, 130, 54)));
+    CHECK(is_row(r[0], row(130, 0, 500, 130, 54)));
     CHECK(is_power(arin_remaining(r, 2, 200), 0, 0, 16));
 
     CHECK(is(arin_detach(r, 2, 200, 2), 0, 0));
-    CHECK(is_row(r[0], row(130, 0, 5, 130, 54)) && is_row(r[1], row(130, 0, 0, 0, 15)));
+    CHECK(is_row(r[0], row(130, 0, 500, 130, 54)) && is_row(r[1], row(130, 0, 0, 0, 15)));
     CHECK(is_power(arin_remaining(r, 2, 200), 0, 0, 131));
 }
 
 /* A request with reserved bits holds what it holds without them: 20 V at 3.25 A 130, 15.0 V at 3.25 A of AVS 98, 9 V at 3 A of PPS 54. */
 static void reserved_bits_hold_the_same(void)
 {
-    struct arin_row start = row(130, 0, 5, 130, 15);
-    struct arin_row pps = row(54, 1, 3, 54, 15);
+    struct arin_row start = row(130, 0, 500, 130, 15);
+    struct arin_row pps = row(54, 1, 300, 54, 15);
     struct arin_row r[2];
 
     r[0] = start;
-    r[1] = row(130, 0, 5, 130, 70);
+    r[1] = row(130, 0, 500, 130, 70);
     CHECK(is(arin_request(r, 2, 200, 1, ask(4, 325) | BIT_21), 0, 0));
-    CHECK(is_row(r[0], row(130, 0, 5, 130, 130)) && is_row(r[1], row(130, 0, 5, 130, 70)));
+    CHECK(is_row(r[0], row(130, 0, 500, 130, 130)) && is_row(r[1], row(130, 0, 500, 130, 70)));
     r[0] = start;
     CHECK(is(arin_request(r, 2, 200, 1, ask(4, 325) | BESIDE_FIGURES), 0, 0));
-    CHECK(is_row(r[0], row(130, 0, 5, 130, 130)) && is_row(r[1], row(130, 0, 5, 130, 70)));
+    CHECK(is_row(r[0], row(130, 0, 500, 130, 130)) && is_row(r[1], row(130, 0, 500, 130, 70)));
     r[0] = start;
     CHECK(is(arin_request(r, 2, 200, 1, ask_volts(5, 600, 65) | BESIDE_VOLTAGE), 0, 0));
-    CHECK(is_row(r[0], row(130, 0, 5, 130, 98)) && is_row(r[1], row(130, 0, 5, 130, 70)));
+    CHECK(is_row(r[0], row(130, 0, 500, 130, 98)) && is_row(r[1], row(130, 0, 500, 130, 70)));
     r[0] = pps;
     CHECK(is(arin_request(r, 2, 200, 1, ask_volts(3, 450, 60) | BESIDE_VOLTAGE), 0, 0));
-    CHECK(is_row(r[0], row(54, 1, 3, 54, 54)) && is_row(r[1], row(130, 0, 5, 130, 70)));
+    CHECK(is_row(r[0], row(54, 1, 300, 54, 54)) && is_row(r[1], row(130, 0, 500, 130, 70)));
     /* 199 less 70 is one less than 130. */
     r[0] = start;
     CHECK(is(arin_request(r, 2, 199, 1, ask(4, 325) | BESIDE_FIGURES), ARIN_NO_POWER_NOW, 1));
-    CHECK(is_row(r[0], start) && is_row(r[1], row(130, 0, 5, 130, 70)));
+    CHECK(is_row(r[0], start) && is_row(r[1], row(130, 0, 500, 130, 70)));
 }
 
 /* One port of 36 W with PPS gets the listing of the README. Eight ports are the most. */
@@ -889,29 +1023,29 @@ static void more_runs(void)
     for (i = 0; i < 8; i++)
         r[i] = row(72, 1, 0, 0, 0);
     CHECK(is(arin_set_up(r, 1, 1600), 0, 0));
-    CHECK(lists(arin_attach(r, 1, 1600, 1, 3), list_36_w()));
-    CHECK(is_row(r[0], row(72, 1, 3, 72, 15)) && is_row(r[1], row(72, 1, 0, 0, 0)));
+    CHECK(lists(arin_attach(r, 1, 1600, 1, 300), list_36_w()));
+    CHECK(is_row(r[0], row(72, 1, 300, 72, 15)) && is_row(r[1], row(72, 1, 0, 0, 0)));
     CHECK(is(arin_set_up(r, 8, 120), 0, 0));
     for (i = 0; i < 8; i++)
         CHECK(is_row(r[i], row(72, 1, 0, 0, 15)));
-    CHECK(lists(arin_attach(r, 8, 1600, 8, 3), list_36_w()));
-    CHECK(is_row(r[7], row(72, 1, 3, 72, 15)));
+    CHECK(lists(arin_attach(r, 8, 1600, 8, 300), list_36_w()));
+    CHECK(is_row(r[7], row(72, 1, 300, 72, 15)));
     CHECK(is_power(arin_remaining(r, 8, 1600), 0, 0, 1480));
 }
 
 /* What the README says of a hard reset, for port 1 that holds 65 W while port 2 is empty. */
 static void hard_reset(void)
 {
-    struct arin_row holds = row(130, 0, 5, 130, 130);
+    struct arin_row holds = row(130, 0, 500, 130, 130);
     struct arin_row r[2];
 
     /* Detach and attach: the list is new, and port 2 can have what was held. */
     r[0] = holds;
     r[1] = row(130, 0, 0, 0, 15);
     CHECK(is(arin_detach(r, 2, 200, 1), 0, 0));
-    CHECK(lists(arin_attach(r, 2, 200, 1, 5), list_l()));
-    CHECK(is_row(r[0], row(130, 0, 5, 130, 15)));
-    CHECK(lists(arin_attach(r, 2, 200, 2, 5), list_l()));
+    CHECK(lists(arin_attach(r, 2, 200, 1, 500), list_l()));
+    CHECK(is_row(r[0], row(130, 0, 500, 130, 15)));
+    CHECK(lists(arin_attach(r, 2, 200, 2, 500), list_l()));
     CHECK(is(arin_request(r, 2, 200, 2, ask(4, 325)), 0, 0));
     CHECK(is(arin_request(r, 2, 200, 1, ask(4, 325)), ARIN_NO_POWER_NOW, 1));
 
@@ -920,7 +1054,7 @@ static void hard_reset(void)
     r[1] = row(130, 0, 0, 0, 15);
     CHECK(lists(arin_advertise(r, 2, 200, 1), list_l()));
     CHECK(is_row(r[0], holds));
-    CHECK(arin_attach(r, 2, 200, 2, 5).verdict.number == 0 && r[1].present == 70);
+    CHECK(arin_attach(r, 2, 200, 2, 500).verdict.number == 0 && r[1].present == 70);
     CHECK(is(arin_request(r, 2, 200, 1, ask(4, 325)), 0, 0));
 }
 
@@ -932,18 +1066,18 @@ static void flags_of_a_shared_list(void)
     int bit;
 
     r[0] = row(130, 0, 0, 0, 15);
-    l = arin_attach(r, 1, 200, 1, 5);
+    l = arin_attach(r, 1, 200, 1, 500);
     CHECK(lists(l, list_l()) && (l.list.words[0] & 0x3F800000) == 0);
     for (bit = 24; bit <= 29; bit++) {
         struct arin_words sent = l.list;
 
         sent.words[0] |= (uint32_t)1 << bit;
         CHECK(is(arin_shape(sent), 0, 0));
-        CHECK(is(arin_check(profile(130, 130, 5, 0, 0, 0), sent), 0, 0));
+        CHECK(is(arin_check(profile(130, 130, 500, 0, 0, 0), sent), 0, 0));
         CHECK(is(arin_answer(sent, ask(1, 300)), 0, 0));
         CHECK(is(arin_answer(sent, ask(1, 301)), 24, 0));
         /* As a profile's flags it is the bit less 24. */
-        CHECK(lists(arin_build(profile(130, 130, 5, 0, 0, (uint8_t)(1 << (bit - 24)))), sent));
+        CHECK(lists(arin_build(profile(130, 130, 500, 0, 0, (uint8_t)(1 << (bit - 24)))), sent));
     }
     CHECK(is(arin_request(r, 1, 200, 1, ask(1, 300)), 0, 0));
     CHECK(is(arin_request(r, 1, 200, 1, ask(1, 301)), 24, 0));
@@ -967,17 +1101,17 @@ static void sets_up_none(void)
 /* Port 1 is attached and port 2 is empty. No call below writes a row. */
 static void refused_for_their_own_reasons(void)
 {
-    struct arin_row one = row(130, 0, 5, 130, 36);
+    struct arin_row one = row(130, 0, 500, 130, 36);
     struct arin_row two = row(130, 0, 0, 0, 15);
     struct arin_row r[2];
 
     r[0] = one;
     r[1] = two;
-    CHECK(no_list(arin_attach(r, 2, 29, 9, 4), ARIN_CAPACITY, 0));
-    CHECK(no_list(arin_attach(r, 2, 200, 0, 4), ARIN_NO_SUCH_PORT, 0));
-    CHECK(no_list(arin_attach(r, 2, 200, 3, 4), 33, 0));
-    CHECK(no_list(arin_attach(r, 2, 200, 1, 4), ARIN_CABLE, 0));
-    CHECK(no_list(arin_attach(r, 2, 200, 1, 5), ARIN_PORT_IN_USE, 1));
+    CHECK(no_list(arin_attach(r, 2, 29, 9, 99), ARIN_CAPACITY, 0));
+    CHECK(no_list(arin_attach(r, 2, 200, 0, 99), ARIN_NO_SUCH_PORT, 0));
+    CHECK(no_list(arin_attach(r, 2, 200, 3, 99), 33, 0));
+    CHECK(no_list(arin_attach(r, 2, 200, 1, 99), ARIN_CABLE, 0));
+    CHECK(no_list(arin_attach(r, 2, 200, 1, 500), ARIN_PORT_IN_USE, 1));
 
     CHECK(no_list(arin_advertise(r, 2, 1601, 9), 32, 0));
     CHECK(no_list(arin_advertise(r, 2, 200, 3), 33, 0));
@@ -997,25 +1131,71 @@ static void refused_for_their_own_reasons(void)
     CHECK(is_row(r[0], one) && is_row(r[1], two));
 }
 
+/* A port with a lead of 2 A of its own, beside one with a marked cable: what is held is what the lead lets through. */
+static void shared_lead(void)
+{
+    struct arin_row r[2];
+
+    r[0] = row(130, 0, 0, 0, 0);
+    r[1] = row(130, 0, 0, 0, 0);
+    CHECK(is(arin_set_up(r, 2, 200), 0, 0));
+    CHECK(lists(arin_attach(r, 2, 200, 1, ARIN_AMPERES(2)), with_currents(200, 200, 200, 200)));
+    CHECK(is_row(r[0], row(130, 0, 200, 130, 15)));
+    CHECK(is(arin_request(r, 2, 200, 1, ask(4, 201)), ARIN_OPERATING_TOO_LARGE, 0));
+    CHECK(is(arin_request(r, 2, 200, 1, ask(4, 200)), 0, 0));
+    CHECK(is_row(r[0], row(130, 0, 200, 130, 80)));
+    CHECK(lists(arin_attach(r, 2, 200, 2, ARIN_AMPERES(4)), with_currents(300, 300, 300, 300)));
+    CHECK(is_row(r[1], row(130, 0, 400, 120, 15)));
+    CHECK(lists(arin_advertise(r, 2, 200, 1), with_currents(200, 200, 200, 200)));
+    CHECK(is_row(r[0], row(130, 0, 200, 130, 80)));
+}
+
+/* A row with a cable that is none is not sound, in every call but set-up, which does not look. 0 is an empty port, and has no P. */
+static void rows_with_no_cable(void)
+{
+    int i;
+
+    for (i = 0; i < NO_CABLES; i++) {
+        const struct arin_row one = row(130, 0, 500, 130, 15), two = row(130, 0, no_cables[i], 130, 15);
+        struct arin_row r[2];
+
+        r[0] = one;
+        r[1] = two;
+        CHECK(no_list(arin_attach(r, 2, 200, 1, 500), ARIN_ROWS_NOT_SOUND, 2));
+        CHECK(no_list(arin_advertise(r, 2, 200, 1), 37, 2));
+        CHECK(is(arin_request(r, 2, 200, 1, ask(1, 300)), 37, 2));
+        CHECK(is(arin_detach(r, 2, 200, 2), 37, 2));
+        CHECK(is_power(arin_remaining(r, 2, 200), 37, 2, 0));
+        CHECK(is_row(r[0], one) && is_row(r[1], two));
+        CHECK(is(arin_set_up(r, 2, 200), 0, 0));
+        CHECK(is_row(r[1], row(130, 0, 0, 0, 15)));
+    }
+    for (i = 100; i <= 500; i++) {
+        const struct arin_row one = row(130, 0, (uint16_t)i, 130, 15);
+
+        CHECK(is_power(arin_remaining(&one, 1, 200), 0, 0, 185));
+    }
+}
+
 /* Rows that are not sound: a row at fault has its place, the sum has none. Set-up alone does not look. */
 static void not_sound(void)
 {
-    struct arin_row one = row(130, 0, 5, 130, 130);
-    struct arin_row two = row(130, 0, 5, 130, 14);
+    struct arin_row one = row(130, 0, 500, 130, 130);
+    struct arin_row two = row(130, 0, 500, 130, 14);
     struct arin_row r[2];
 
     r[0] = one;
     r[1] = two;
-    CHECK(no_list(arin_attach(r, 2, 200, 9, 4), ARIN_ROWS_NOT_SOUND, 2));
+    CHECK(no_list(arin_attach(r, 2, 200, 9, 99), ARIN_ROWS_NOT_SOUND, 2));
     CHECK(no_list(arin_advertise(r, 2, 200, 9), 37, 2));
     CHECK(is(arin_request(r, 2, 200, 9, 0), 37, 2));
     CHECK(is(arin_detach(r, 2, 200, 9), 37, 2));
     CHECK(is_power(arin_remaining(r, 2, 200), 37, 2, 0));
     CHECK(is_row(r[0], one) && is_row(r[1], two));
 
-    two = row(130, 0, 5, 130, 71);
+    two = row(130, 0, 500, 130, 71);
     r[1] = two;
-    CHECK(no_list(arin_attach(r, 2, 200, 9, 4), 37, 0));
+    CHECK(no_list(arin_attach(r, 2, 200, 9, 99), 37, 0));
     CHECK(no_list(arin_advertise(r, 2, 200, 9), 37, 0));
     CHECK(is(arin_request(r, 2, 200, 9, 0), 37, 0));
     CHECK(is(arin_detach(r, 2, 200, 9), 37, 0));
@@ -1027,7 +1207,7 @@ static void not_sound(void)
 static void refused_by_count(struct arin_row *rows, size_t count)
 {
     CHECK(is(arin_set_up(rows, count, 200), ARIN_ROW_COUNT, 0));
-    CHECK(no_list(arin_attach(rows, count, 200, 2, 5), 30, 0));
+    CHECK(no_list(arin_attach(rows, count, 200, 2, 500), 30, 0));
     CHECK(no_list(arin_advertise(rows, count, 200, 1), 30, 0));
     CHECK(is(arin_request(rows, count, 200, 1, ask(1, 300)), 30, 0));
     CHECK(is(arin_detach(rows, count, 200, 1), 30, 0));
@@ -1039,7 +1219,7 @@ static void counts(void)
     struct arin_row lent[9];
     int i;
 
-    lent[0] = row(130, 0, 5, 130, 20);
+    lent[0] = row(130, 0, 500, 130, 20);
     for (i = 1; i < 9; i++)
         lent[i] = row(130, 0, 0, 0, 15);
 
@@ -1047,7 +1227,7 @@ static void counts(void)
     refused_by_count((struct arin_row *)(uintptr_t)1, 0);
     refused_by_count(lent, 0);
     refused_by_count(lent, 9);
-    CHECK(is_row(lent[0], row(130, 0, 5, 130, 20)));
+    CHECK(is_row(lent[0], row(130, 0, 500, 130, 20)));
     for (i = 1; i < 9; i++)
         CHECK(is_row(lent[i], row(130, 0, 0, 0, 15)));
 }
@@ -1056,11 +1236,16 @@ int main(void)
 {
     texts();
     watts();
+    amperes();
     version();
     default_profiles();
     builds();
     builds_none();
     checks();
+    cables_refused();
+    cables_built();
+    leads();
+    leads_with_pps();
     shapes();
     reading();
     writing();
@@ -1086,6 +1271,8 @@ int main(void)
     flags_of_a_shared_list();
     sets_up_none();
     refused_for_their_own_reasons();
+    shared_lead();
+    rows_with_no_cable();
     not_sound();
     counts();
     return told("calls");

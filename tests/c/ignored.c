@@ -26,7 +26,7 @@ void ignore_every_answer(struct arin_profile profile, struct arin_words list, st
     arin_take_message(bytes, 6);
     arin_write_message(bytes, 6, message);
     arin_set_up(rows, 2, 200);
-    arin_attach(rows, 2, 200, 1, 5);
+    arin_attach(rows, 2, 200, 1, 500);
     arin_advertise(rows, 2, 200, 1);
     arin_request(rows, 2, 200, 1, 0);
     arin_detach(rows, 2, 200, 1);
