@@ -12,6 +12,7 @@ static unsigned char input[BLOCK];
 static char output[BLOCK];
 static unsigned long filled;
 
+/* The cable in 10 mA. */
 struct profile {
     unsigned max, present, cable, rounding, pps, flags;
 };
@@ -25,7 +26,7 @@ static int fault(const struct profile *p)
 {
     if (p->max < 1 || p->max > 200) return 1;
     if (p->present < 1 || p->present > p->max) return 2;
-    if (p->cable != 3 && p->cable != 5) return 3;
+    if (p->cable < 100 || p->cable > 500) return 3;
     if (p->rounding > 1 || p->pps > 1) return 4;
     if (p->flags > 63) return 5;
     if (p->pps == 1 && p->present < p->max) return 6;
@@ -41,13 +42,14 @@ static unsigned least(unsigned a, unsigned b)
 static unsigned current(const struct profile *p, unsigned volts)
 {
     unsigned up = p->rounding ? volts - 1 : 0;
-    return least((50 * p->present + up) / volts, volts == 20 ? 100 * p->cable : 300);
+    return least((50 * p->present + up) / volts, volts == 20 ? p->cable : least(300, p->cable));
 }
 
 /* In 50 mA, 5 V up to `top` in 100 mV, power limited. */
 static unsigned prog(const struct profile *p, unsigned volts, unsigned top)
 {
-    unsigned figure = least(10 * p->max / volts, volts == 20 ? 20 * p->cable : 60);
+    unsigned cable = p->cable / 5;
+    unsigned figure = least(10 * p->max / volts, volts == 20 ? cable : least(60, cable));
     return 0xC8000000u | top << 17 | 50 << 8 | figure;
 }
 
@@ -102,7 +104,7 @@ static int put_line(int number, const struct list *l)
 
 static int put_record(const unsigned char *r)
 {
-    struct profile p = {r[0] | r[1] << 8, r[2] | r[3] << 8, r[4], r[5], r[6], r[7]};
+    struct profile p = {r[0] | r[1] << 8, r[2] | r[3] << 8, 10u * r[4], r[5], r[6], r[7]};
     struct list l = {{0}, 0};
     int number = fault(&p);
     if (number == 0) build(&p, &l);

@@ -40,7 +40,8 @@ with open(sys.argv[1], "wb") as out:
         most = dice.randint(1, 200)
         pps = dice.randint(0, 1)
         present = most if pps or dice.randint(0, 1) else dice.randint(1, most)
-        record = [most, present, dice.choice((30, 50, dice.randint(10, 50))), dice.randint(0, 1), pps, dice.choice((0, 0, 0, dice.randint(0, 63)))]
+        cable = dice.choice((20, 30, 40, 50, dice.randint(10, 50)))
+        record = [most, present, cable, dice.randint(0, 1), pps, dice.choice((0, 0, 0, dice.randint(0, 63)))]
         if dice.randint(0, 7) == 0:
             record[dice.randint(0, 5)] = dice.randint(64, 255)
         out.write(struct.pack("<HHBBBB", *record))
