@@ -24,8 +24,8 @@ opt-level s or at the one given (s, z, 1, 2, 3), and prints for each call
   - stack: the most bytes below the caller's, by painting the RAM;
   - instructions, by the emulator's counter: the mean over the benchmark's 2000
     seeded inputs, and the most over these and the hardest (every full port with
-    its own list, and for the rule check a step past 3 A; seven objects in every
-    mix; eight ports that are all in use);
+    its own list, on cables of 2 to 5 A, and for the rule check a step past 3 A;
+    seven objects in every mix; eight ports that are all in use);
   - divisions: calls of __aeabi_uidiv and __aeabi_uidivmod, counted by wrapping
     them at link time; the instructions in them are in the figures above;
 and the divisions of the rule check of seven objects, the most that a list has.
@@ -111,5 +111,9 @@ echo
 echo "| the rule check of seven objects, six with a current that is judged | divisions, library | model |"
 echo "|---|--:|--:|"
 paste -d ' ' "$made/library.seven" "$made/model.seven" | awk '
-  BEGIN { told["built"] = "as the builder makes them"; told["past_3_A"] = "a step past 3 A where they have it" }
+  BEGIN {
+    told["built"] = "as the builder makes them"; told["past_3_A"] = "a step past 3 A where they have it"
+    told["built_2_A"] = told["built"] ", 2 A cable"; told["built_4_A"] = told["built"] ", 4 A cable"
+    told["past_3_A_of_4_A"] = told["past_3_A"] ", 4 A cable"
+  }
   { printf "| %s | %d | %d |\n", told[$1], $2, $4 }'

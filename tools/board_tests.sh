@@ -51,6 +51,11 @@ end() {
   exit 0
 }
 
+# most_of_seven NAME: the most divisions of those lines, whatever the cable.
+most_of_seven() {
+  sed -n "s/^$1[^ ]* //p" "$made/seven" | sort -n | tail -n 1
+}
+
 # at_level OPT-LEVEL: what is installed stays in a folder of that name.
 at_level() {
   local where="on an emulated Cortex-M0, opt-level $1" prefix=$made/level-$1 source counted
@@ -64,8 +69,8 @@ at_level() {
   answers_as_here "$where"
   pass "each of $(awk '/^arin_/ { calls += $2 } END { print calls }' "$made/out") calls of the benchmark answers as on this machine, $where"
   divisions_of_seven "$where" > "$made/seven"
-  counted="as built $(sed -n 's/^built //p' "$made/seven"), a step past 3 A $(sed -n 's/^past_3_A //p' "$made/seven")"
-  awk '$2 > ($1 == "built" ? 3 : 6) { exit 1 }' "$made/seven" || fail "the rule check of seven objects divides too often, $where: $counted"
+  counted="as built $(most_of_seven built), a step past 3 A $(most_of_seven past_3_A)"
+  awk '$2 > ($1 ~ /^built/ ? 3 : 6) { exit 1 }' "$made/seven" || fail "the rule check of seven objects divides too often, $where: $counted"
   pass "the rule check of seven objects divides no more often than it has to ($counted), $where"
 }
 

@@ -41,8 +41,8 @@ static struct arin_profile profile;
 static struct arin_words list;
 static _Alignas(4) struct arin_flat_objects objects;
 static struct arin_row rows[ARIN_MOST_ROWS + 1];
-static uint8_t count, port, cable;
-static uint16_t capacity;
+static uint8_t count, port;
+static uint16_t capacity, cable;
 static uint32_t word;
 static struct arin_message message;
 static uint8_t lent[ARIN_LONGEST_MESSAGE + 1];
@@ -66,7 +66,7 @@ static void take_profile(void)
 {
     profile.max = (uint16_t)take(2);
     profile.present = (uint16_t)take(2);
-    profile.cable = (uint8_t)take(1);
+    profile.cable = (uint16_t)take(2);
     profile.rounding = (uint8_t)take(1);
     profile.pps = (uint8_t)take(1);
     profile.flags = (uint8_t)take(1);
@@ -150,14 +150,14 @@ static void take_turn(void)
     for (int i = 0; i <= ARIN_MOST_ROWS; i++) {
         rows[i].max = (uint16_t)take(2);
         rows[i].pps = (uint8_t)take(1);
-        rows[i].cable = (uint8_t)take(1);
+        rows[i].cable = (uint16_t)take(2);
         rows[i].present = (uint16_t)take(2);
         rows[i].held = (uint16_t)take(2);
     }
     count = (uint8_t)take(1);
     capacity = (uint16_t)take(2);
     port = (uint8_t)take(1);
-    cable = (uint8_t)take(1);
+    cable = (uint16_t)take(2);
     word = take(4);
 }
 
@@ -177,7 +177,7 @@ static void give_profiled(void)
     give_verdict_of(profiled.verdict);
     give(profiled.profile.max, 2);
     give(profiled.profile.present, 2);
-    give(profiled.profile.cable, 1);
+    give(profiled.profile.cable, 2);
     give(profiled.profile.rounding, 1);
     give(profiled.profile.pps, 1);
     give(profiled.profile.flags, 1);
@@ -244,7 +244,7 @@ static void give_rows(void)
     for (int i = 0; i <= ARIN_MOST_ROWS; i++) {
         give(rows[i].max, 2);
         give(rows[i].pps, 1);
-        give(rows[i].cable, 1);
+        give(rows[i].cable, 2);
         give(rows[i].present, 2);
         give(rows[i].held, 2);
     }

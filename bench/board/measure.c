@@ -34,7 +34,7 @@ struct arin_message_reading model_read_message(const uint8_t *bytes, size_t leng
 struct arin_message_reading model_take_message(const uint8_t *bytes, size_t length);
 struct arin_written model_write_message(uint8_t *bytes, size_t length, const struct arin_message *message);
 struct arin_verdict model_set_up(struct arin_row *rows, size_t count, uint16_t capacity);
-struct arin_listing model_attach(struct arin_row *rows, size_t count, uint16_t capacity, uint8_t port, uint8_t cable);
+struct arin_listing model_attach(struct arin_row *rows, size_t count, uint16_t capacity, uint8_t port, uint16_t cable);
 struct arin_listing model_advertise(struct arin_row *rows, size_t count, uint16_t capacity, uint8_t port);
 struct arin_verdict model_request(struct arin_row *rows, size_t count, uint16_t capacity, uint8_t port, uint32_t word);
 struct arin_verdict model_detach(struct arin_row *rows, size_t count, uint16_t capacity, uint8_t port);
@@ -315,12 +315,12 @@ static void measure_call(int n, uint32_t itself)
 #ifdef DIVISIONS
 /*
  * The rule check of seven objects, the most that a list has: 5, 9, 15 and 20 V, AVS, 15 V Prog and 20 V Prog. `steps` are added to the four that
- * are 3 A, at 5, 9 and 15 V and of 15 V Prog, and to the first current of AVS, which is that of 15 V. Prints the count, the refusal and the divisions:
- * 7 and 0, and of divisions no more than one for each of the six that are not AVS.
+ * have 3 A where the cable carries it, at 5, 9 and 15 V and of 15 V Prog, and to the first current of AVS, which is that of 15 V. Prints the count,
+ * the refusal and the divisions: 7 and 0, and of divisions no more than one for each of the six that are not AVS.
  */
-static void count_divisions_of_seven(const char *name, uint32_t steps)
+static void count_divisions_of_seven(const char *name, uint16_t carries, uint32_t steps)
 {
-    profile = (struct arin_profile){ .max = 110, .present = 110, .cable = 5, .pps = 1 };
+    profile = (struct arin_profile){ .max = 110, .present = 110, .cable = carries, .pps = 1 };
     list = CALL(build)(GIVE(profile)).list;
     for (int i = 0; i < 3; i++)
         list.words[i] += steps;
@@ -346,8 +346,11 @@ int main(void)
     for (int n = 0; n < CALLS; n++)
         measure_call(n, itself);
 #ifdef DIVISIONS
-    count_divisions_of_seven("built", 0);
-    count_divisions_of_seven("past_3_A", 1);
+    count_divisions_of_seven("built", ARIN_AMPERES(5), 0);
+    count_divisions_of_seven("built_2_A", ARIN_AMPERES(2), 0);
+    count_divisions_of_seven("built_4_A", ARIN_AMPERES(4), 0);
+    count_divisions_of_seven("past_3_A", ARIN_AMPERES(5), 1);
+    count_divisions_of_seven("past_3_A_of_4_A", ARIN_AMPERES(4), 1);
 #endif
     return fclose(answers) == 0 ? 0 : 1;
 }
