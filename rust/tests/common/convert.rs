@@ -72,9 +72,9 @@ structs! {
     lists::Words { words, count } {} {}
     lists::Listing {} {} { verdict, list }
     lists::Reading {} {} { verdict, list }
-    rules::Profile { cable, rounding, pps, flags } { max: HalfWatts, present: HalfWatts } {}
+    rules::Profile { rounding, pps, flags } { max: HalfWatts, present: HalfWatts, cable: Ma10 } {}
     rules::Profiled {} {} { verdict, profile }
-    ports::Row { pps, cable } { max: HalfWatts, present: HalfWatts, held: HalfWatts } {}
+    ports::Row { pps } { max: HalfWatts, cable: Ma10, present: HalfWatts, held: HalfWatts } {}
     ports::RemainingPower {} { power: HalfWatts } { verdict }
     requests::Asked { position, mismatch } {} { request }
     flat::FlatObject { kind, flags, peak, limited } {

@@ -94,7 +94,7 @@ pub fn left(standing: Standing, row: Row, capacity: u16) -> u32 {
 }
 
 /// P becomes "the smaller of M and what the others leave".
-fn offered(row: Row, left: u32, cable: u8) -> Row {
+fn offered(row: Row, left: u32, cable: u16) -> Row {
     Row {
         cable,
         present: u32::from(row.max).min(left) as u16,
@@ -115,11 +115,11 @@ fn change(standing: Standing, port: u8, decided: Result<Row, Verdict>) -> Change
     }
 }
 
-/// 3: "cable neither 3 nor 5"; 34: "attach to a port that is attached", with the row's place.
-pub fn attach(standing: Standing, row: Row, capacity: u16, port: u8, cable: u8) -> Change {
+/// 3: "cable outside 100 to 500"; 34: "attach to a port that is attached", with the row's place.
+pub fn attach(standing: Standing, row: Row, capacity: u16, port: u8, cable: u16) -> Change {
     let decided = || {
         port_end(standing, capacity, port)?;
-        refuse_if(cable != 3 && cable != 5, 3, 0)?;
+        refuse_if(!(100..=500).contains(&cable), 3, 0)?;
         refuse_if(row.cable != 0, 34, port)?;
         Ok(offered(row, left(standing, row, capacity), cable))
     };

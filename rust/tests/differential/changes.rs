@@ -2,9 +2,9 @@
 
 use crate::common::convert::{ToLibrary, ToModel};
 use crate::common::run::Run;
-use crate::{by_value_stated as stated, requests_made, standings_made};
+use crate::{by_value_stated as stated, profiles, requests_made, standings_made};
 use arinduleu::ports::{self, Change, Standing};
-use arinduleu::steps::HalfWatts;
+use arinduleu::steps::{HalfWatts, Ma10};
 use model::{Row, Verdict};
 
 const STAYS: &str = "a refusal that stays";
@@ -20,7 +20,7 @@ struct Given {
     row: Row,
     capacity: u16,
     port: u8,
-    cable: u8,
+    cable: u16,
     word: u32,
 }
 
@@ -35,10 +35,7 @@ impl Given {
             row,
             capacity,
             port: standings_made::port(random, standing.count),
-            cable: match random.below(8) {
-                0 => random.u8(),
-                _ => random.pick(&[3, 5, 3, 5, 4, 0]),
-            },
+            cable: profiles::any_cable(random),
             word: requests_made::any(random, &stated::rule_list(row)),
         }
     }
@@ -97,7 +94,7 @@ fn attach_by_value() {
     compare(
         "attach",
         &[0, 3, 33, 34, 37],
-        |g, row| ports::attach(g.standing, row, g.watts(), g.port, g.cable),
+        |g, row| ports::attach(g.standing, row, g.watts(), g.port, Ma10(g.cable)),
         |g| stated::attach(g.standing, g.row, g.capacity, g.port, g.cable),
     );
 }

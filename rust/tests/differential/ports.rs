@@ -4,7 +4,7 @@ use crate::by_value_stated::{asked, rule_list};
 use crate::common::convert::{ToLibrary, ToModel};
 use crate::common::run::Run;
 use crate::table::Table;
-use crate::{requests, requests_made, rows_made};
+use crate::{profiles, requests, requests_made, rows_made};
 use model::{Listing, Row, Words};
 
 pub const NUMBERS: &[u8] = &[
@@ -87,7 +87,7 @@ impl Charger {
         let port = rows_made::port(&mut run.random, self.lists.len());
         match run.random.below(256) {
             0..48 => {
-                let cable = run.random.pick(&[3, 3, 3, 5, 5, 5, 0, 4]);
+                let cable = profiles::any_cable(&mut run.random);
                 let given = self.table.attach(run, capacity, port, cable);
                 self.keep(run, port, given);
             }

@@ -6,6 +6,38 @@ use model::Profile;
 /// Where M or P decides something: the rows of the table, the PPS ranges, where a quotient passes 3 A or 5 A, 15 of a port, both ends.
 const EDGES: [u16; 9] = [1, 15, 30, 50, 54, 90, 120, 150, 200];
 
+/// Both ends, where the cable begins to cut, leads as they are made, and figures that are no whole 50 mA.
+const CABLES: [u16; 11] = [100, 101, 200, 204, 299, 300, 301, 399, 400, 499, 500];
+
+/// One that is no refusal.
+pub fn cable(random: &mut Random) -> u16 {
+    match random.below(3) {
+        0 => random.pick(&CABLES),
+        _ => random.within(100..=500),
+    }
+}
+
+/// One that is refused: amperes, one step past an end, what would be none or a cable in 8 bits, or any other.
+pub fn no_cable(random: &mut Random) -> u16 {
+    let cable = match random.below(2) {
+        0 => random.pick(&[0, 1, 3, 5, 50, 99, 501, 512, 612, 712, u16::MAX]),
+        _ => random.u16(),
+    };
+    match cable {
+        100..=500 => 0,
+        _ => cable,
+    }
+}
+
+/// Mostly one that is no refusal, else any number of 16 bits.
+pub fn any_cable(random: &mut Random) -> u16 {
+    match random.below(8) {
+        0 => no_cable(random),
+        1 => random.u16(),
+        _ => cable(random),
+    }
+}
+
 /// From 0 to 201, often at an edge or one beside it.
 pub fn power(random: &mut Random) -> u16 {
     match random.below(3) {
@@ -29,7 +61,7 @@ pub fn sound(random: &mut Random) -> Profile {
     Profile {
         max,
         present: present(random, max),
-        cable: random.pick(&[3, 5]),
+        cable: cable(random),
         rounding: random.pick(&[0, 1]),
         pps: random.pick(&[0, 1]),
         flags: random.pick(&[0, 1, 32, 62, 63]),
@@ -49,7 +81,7 @@ pub fn any(random: &mut Random) -> Profile {
                 let past = profile.max.saturating_add(1);
                 profile.present = random.pick(&[0, past, 201, 256, 257, u16::MAX]);
             }
-            2 => profile.cable = random.pick(&[0, 1, 2, 4, 6, 7, 131, 255]),
+            2 => profile.cable = no_cable(random),
             3 => profile.rounding = random.pick(&[2, 3, 128, 255]),
             4 => profile.pps = random.pick(&[2, 3, 128, 255]),
             _ => profile.flags = random.pick(&[64, 65, 127, 128, 255]),
@@ -69,7 +101,10 @@ pub fn beside(random: &mut Random, profile: Profile) -> Profile {
             other.max = (other.max - 1).max(1);
             other.present = other.present.min(other.max);
         }
-        4 => other.cable = 8 - other.cable,
+        4 => {
+            let beside = [other.cable - 1, other.cable + 1, 300, 500, cable(random)];
+            other.cable = random.pick(&beside).clamp(100, 500);
+        }
         _ => other.rounding = 1 - other.rounding,
     }
     other

@@ -32,7 +32,7 @@ pub fn stray(random: &mut Random) -> Row {
     Row {
         max: random.u16(),
         pps: random.u8(),
-        cable: random.u8(),
+        cable: random.u16(),
         present: random.u16(),
         held: random.u16(),
     }
@@ -85,12 +85,12 @@ pub fn damaged(random: &mut Random, row: Row) -> Row {
     match random.below(8) {
         0 => row.max = random.pick(&[0, 14, 15, 200, 201, before(row.present)]),
         1 => row.pps = random.pick(&[0, 1, 2, 255]),
-        2 => row.cable = random.pick(&[0, 1, 3, 4, 5, 6, 255]),
+        2 => row.cable = random.pick(&[0, 1, 3, 5, 99, 100, 256, 499, 500, 501, 512, u16::MAX]),
         3 => row.present = random.pick(&[0, 1, row.max, past(row.max), row.held, before(row.held)]),
         4 => row.held = random.pick(&[0, 14, 15, 16, row.present, past(row.present), u16::MAX]),
         // All of M held: alone it is sound, and the sum may not be.
         5 | 6 => {
-            row.cable = 5;
+            row.cable = profiles::cable(random);
             row.present = row.max;
             row.held = row.max;
         }

@@ -4,11 +4,17 @@ use crate::common::convert::{ToLibrary, ToModel};
 use crate::common::random::Random;
 use crate::common::run::Run;
 use crate::{lists_made, profiles};
-use arinduleu::steps::HalfWatts;
+use arinduleu::steps::{HalfWatts, Ma10};
 use arinduleu::{board, rules};
 use model::{Profile, Words};
 
 pub const NUMBERS: &[u8] = &[0, 1, 2, 3, 4, 5, 6, 10, 11, 12, 13, 14, 15, 16, 17, 18, 19];
+
+const BELOW_3_A: &str = "passes on a cable below 3 A";
+const REFUSED_BELOW_3_A: &str = "19 on a cable below 3 A";
+const BETWEEN: &str = "passes on a cable between 3 A and 5 A";
+const REFUSED_BETWEEN: &str = "19 on a cable between 3 A and 5 A";
+const NOT_WHOLE: &str = "PPS passes on a cable that is no whole 50 mA";
 
 #[test]
 fn default_profile_of_every_maximum() {
@@ -31,13 +37,13 @@ fn default_profile_of_every_maximum() {
 #[test]
 fn every_cable() {
     let mut run = Run::new("cables");
-    for cable in 0..=u8::MAX {
+    for cable in 0..=u16::MAX {
         let profile = Profile {
             cable,
             ..model::default_profile(72).profile
         };
         let refused = model::build(&profile).verdict.number == 3;
-        run.same("bad_cable", &cable, rules::bad_cable(cable), refused);
+        run.same("bad_cable", &cable, rules::bad_cable(Ma10(cable)), refused);
     }
     run.finish(&[], &[]);
 }
@@ -78,8 +84,30 @@ fn built_and_checked() {
             verdict,
         );
         run.saw(verdict.number);
+        note(&mut run, profile, list, verdict.number);
     }
-    run.finish(NUMBERS, &[]);
+    let cases = [
+        BELOW_3_A,
+        REFUSED_BELOW_3_A,
+        BETWEEN,
+        REFUSED_BETWEEN,
+        NOT_WHOLE,
+    ];
+    run.finish(NUMBERS, &cases);
+}
+
+fn note(run: &mut Run, profile: Profile, list: Words, number: u8) {
+    match (number, profile.cable) {
+        (0, 100..=299) => run.reached(BELOW_3_A),
+        (19, 100..=299) => run.reached(REFUSED_BELOW_3_A),
+        (0, 301..=499) => run.reached(BETWEEN),
+        (19, 301..=499) => run.reached(REFUSED_BETWEEN),
+        _ => {}
+    }
+    let last = list.words[usize::from(list.count.clamp(1, 7)) - 1];
+    if number == 0 && profile.cable % 5 != 0 && last >> 28 == 0xC {
+        run.reached(NOT_WHOLE);
+    }
 }
 
 /// Each word of the built list by its place, and none anywhere else.
@@ -132,7 +160,7 @@ fn to_check(random: &mut Random, any: Profile) -> (Profile, Words) {
     }
 }
 
-/// Currents at and beside what a list may have: the quotient either way, 3 A, the cable. AVS takes those of its fixed objects along, or
+/// Currents at and beside what a list may have: the quotient either way, 3 A, the cable, in whole 50 mA for PPS. AVS takes those of its fixed objects along, or
 /// 17 would hide 19.
 fn other_currents(random: &mut Random, own: Profile, list: &mut Words) {
     for at in 0..usize::from(list.count) {
@@ -143,12 +171,12 @@ fn other_currents(random: &mut Random, own: Profile, list: &mut Words) {
             Some(model::Object::Fixed { volts, .. }) => {
                 let quotient = 50 * u32::from(own.present) / u32::from(volts / 20);
                 let up = random.below(2) as u32;
-                let limit = random.pick(&[quotient + up, 300, 100 * u32::from(own.cable)]);
+                let limit = random.pick(&[quotient + up, 300, u32::from(own.cable)]);
                 let current = u32::from(random.near(limit.min(1023) as u16, 10));
                 set_fixed(list, at, current);
             }
             Some(model::Object::Pps { current, .. }) => {
-                let limit = random.pick(&[current, 60, 20 * u16::from(own.cable)]);
+                let limit = random.pick(&[current, 60, own.cable / 5]);
                 list.words[at] = list.words[at] & !0x7F | u32::from(random.near(limit, 7));
             }
             _ => {}

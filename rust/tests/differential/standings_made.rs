@@ -88,7 +88,11 @@ pub fn row(random: &mut Random) -> Row {
     Row {
         max,
         pps: random.pick(&[0, 0, 1, 1, 1, 2]),
-        cable: random.pick(&[0, 0, 0, 3, 3, 5, 5, 4]),
+        cable: match random.below(8) {
+            0..=2 => 0,
+            3 => profiles::no_cable(random),
+            _ => profiles::cable(random),
+        },
         present,
         held,
     }

@@ -4,7 +4,7 @@
 use crate::common::by_value;
 use crate::common::convert::{ToLibrary, ToModel};
 use crate::common::run::Run;
-use arinduleu::steps::HalfWatts;
+use arinduleu::steps::{HalfWatts, Ma10};
 use arinduleu::{board, ports};
 use model::{Listing, RemainingPower, Row, Verdict};
 use std::fmt::Debug;
@@ -50,11 +50,11 @@ impl Table {
         answer
     }
 
-    pub fn attach(&mut self, run: &mut Run, capacity: u16, port: u8, cable: u8) -> Listing {
+    pub fn attach(&mut self, run: &mut Run, capacity: u16, port: u8, cable: u16) -> Listing {
         let input = (self.before(run), capacity, port, cable);
         let answer = model::attach(&mut self.model, capacity, port, cable);
         let (standing, own) = self.own(capacity, port);
-        let change = ports::attach(standing, own, HalfWatts(capacity), port, cable);
+        let change = ports::attach(standing, own, HalfWatts(capacity), port, Ma10(cable));
         self.change_same(run, "ports::attach", &input, change, answer.verdict, port);
         let value = ports::offer(change).model();
         run.same("the offer of attach", &input, value, answer);
@@ -131,7 +131,7 @@ impl Table {
         let past = Row {
             max: run.random.u16(),
             pps: 1,
-            cable: 3,
+            cable: 300,
             present: 15,
             held: run.random.u16(),
         };

@@ -18,7 +18,7 @@ const EIGHT: &[Row] = &[
 ];
 
 /// The first row is not fit for set-up, and not sound.
-const BAD: &[Row] = &[row(14, 2, 4, 300, 0), empty(72, 1)];
+const BAD: &[Row] = &[row(14, 2, 99, 300, 0), empty(72, 1)];
 
 /// The case, the count that is told, the capacity, and the rows that are there.
 const COUNTS: &[(&str, usize, u16, &[Row])] = &[
@@ -41,15 +41,15 @@ const COUNTS: &[(&str, usize, u16, &[Row])] = &[
 /// A port that is no row and a bad cable come later in the order.
 const EVERY_CALL: &[Call] = &[
     Call::SetUp,
-    Call::Attach(1, 3),
+    Call::Attach(1, 300),
     Call::Advertise(1),
     Call::Request(1, 0x10002896),
     Call::Detach(1),
-    Call::Attach(0, 3),
+    Call::Attach(0, 300),
     Call::Advertise(0),
     Call::Request(0, 0x10002896),
     Call::Detach(0),
-    Call::Attach(255, 4),
+    Call::Attach(255, 99),
     Call::Remaining,
 ];
 

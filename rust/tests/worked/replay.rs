@@ -52,7 +52,7 @@ fn expect(place: &str, rows: &[Row], capacity: u16, call: Call, said: &str) -> V
 
 fn rows_of(fields: &[&str]) -> Vec<Row> {
     let figures: Vec<u16> = fields.iter().map(|f| f.parse().unwrap()).collect();
-    let row = |r: &[u16]| row(r[0], r[1] as u8, r[2] as u8, r[3], r[4]);
+    let row = |r: &[u16]| row(r[0], r[1] as u8, r[2], r[3], r[4]);
     figures.chunks(5).map(row).collect()
 }
 
@@ -61,7 +61,7 @@ fn call_of(fields: &[&str]) -> Option<(u16, Call)> {
     let byte = |at: usize| fields[at].parse::<u8>().unwrap();
     let call = match fields[0] {
         "setup" => Call::SetUp,
-        "attach" => Call::Attach(byte(2), byte(3)),
+        "attach" => Call::Attach(byte(2), figure(3)),
         "advertise" => Call::Advertise(byte(2)),
         "request" => Call::Request(byte(2), u32::from_str_radix(fields[3], 16).unwrap()),
         "detach" => Call::Detach(byte(2)),

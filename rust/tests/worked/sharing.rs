@@ -3,16 +3,16 @@
 use crate::common::by_value::{row_of, stand};
 use arinduleu::lists::{Listing, Words};
 use arinduleu::ports::{Change, Row};
-use arinduleu::steps::HalfWatts;
+use arinduleu::steps::{HalfWatts, Ma10};
 use arinduleu::verdicts::Verdict;
 use arinduleu::{board, ports};
 
 /// M, PPS wanted, cable, P, held.
-pub const fn row(max: u16, pps: u8, cable: u8, present: u16, held: u16) -> Row {
+pub const fn row(max: u16, pps: u8, cable: u16, present: u16, held: u16) -> Row {
     Row {
         max: HalfWatts(max),
         pps,
-        cable,
+        cable: Ma10(cable),
         present: HalfWatts(present),
         held: HalfWatts(held),
     }
@@ -23,7 +23,7 @@ pub const fn empty(max: u16, pps: u8) -> Row {
 }
 
 /// Stands in every place past the count: it would be refused if it were looked at, and shows if it is written.
-pub const PAST: Row = row(65535, 255, 255, 65535, 65535);
+pub const PAST: Row = row(65535, 255, 65535, 65535, 65535);
 
 /// The console's nine rows at most, and one more that is always past the count.
 pub type Places = [Row; 10];
@@ -37,7 +37,7 @@ pub fn places(rows: &[Row]) -> Places {
 #[derive(Clone, Copy, Debug)]
 pub enum Call {
     SetUp,
-    Attach(u8, u8),
+    Attach(u8, u16),
     Advertise(u8),
     Request(u8, u32),
     Detach(u8),
@@ -94,7 +94,7 @@ pub fn by_value(all: Places, count: usize, capacity: u16, call: Call) -> (Answer
             judged(standing.fault)
         }
         Call::Attach(port, cable) => {
-            let change = put(ports::attach(standing, own(port), watts, port, cable));
+            let change = put(ports::attach(standing, own(port), watts, port, Ma10(cable)));
             listed(ports::offer(change))
         }
         Call::Advertise(port) => {
