@@ -49,9 +49,9 @@ fields! {
     MessageReading { verdict, message }
     Written { verdict, length }
     Lent { bytes, length }
-    Profile { max.0, present.0, cable, rounding, pps, flags }
+    Profile { max.0, present.0, cable.0, rounding, pps, flags }
     Profiled { verdict, profile }
-    Row { max.0, pps, cable, present.0, held.0 }
+    Row { max.0, pps, cable.0, present.0, held.0 }
     RemainingPower { verdict, power.0 }
     FlatObject {
         kind, flags, peak, limited, volts.0, max.0, min.0, power.0, current.0, max100.0, min100.0, current50.0, low.0, high.0

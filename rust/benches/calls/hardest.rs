@@ -1,5 +1,6 @@
-//! Inputs that ask for the most work: every full port with its own list, and for the rule check with a step past 3 A; lists of seven objects
-//! in every mix of kinds, of a source and of a sink; and eight rows that are all in use. They stand beside the seeded ones where the most that a
+//! Inputs that ask for the most work: every full port with its own list, on a lead that cuts every current, on one that cuts the highest and on
+//! cables that cut none or few, and for the rule check with a step past 3 A; lists of seven objects in every mix of kinds, of a source and of
+//! a sink; and eight rows that are all in use. They stand beside the seeded ones where the most that a
 //! call takes is looked for.
 
 use crate::inputs::Turn;
@@ -19,18 +20,18 @@ use arinduleu::sinks::SinkObject;
 use arinduleu::steps::{HalfWatts, Ma10, Ma50, Mv100, Mv50, Mw250};
 use arinduleu::verdicts;
 
-/// P = M for every M, with each cable, rounding and wish for PPS.
-pub fn profiles() -> Vec<Profile> {
+/// P = M for every M, with each of these cables, rounding and wish for PPS.
+fn full_ports(cables: &[u16]) -> Vec<Profile> {
     let mut all = Vec::new();
     for max in 1..=200 {
-        for (cable, rounding, pps) in [3, 5]
-            .into_iter()
-            .flat_map(|c| (0..4).map(move |n| (c, n % 2, n / 2)))
+        for (cable, rounding, pps) in cables
+            .iter()
+            .flat_map(|c| (0..4).map(move |n| (*c, n % 2, n / 2)))
         {
             all.push(Profile {
                 max: HalfWatts(max),
                 present: HalfWatts(max),
-                cable,
+                cable: Ma10(cable),
                 rounding,
                 pps,
                 flags: 63,
@@ -40,8 +41,15 @@ pub fn profiles() -> Vec<Profile> {
     all
 }
 
+/// 2 A cuts most currents, and 4 A lies between the 3 A that is built below 20 V and what a list may have there.
+pub fn profiles() -> Vec<Profile> {
+    full_ports(&[200, 300, 400, 500])
+}
+
+/// The shape of a list and a request to it do not ask for the cable: two are enough there.
 fn built() -> Vec<Words> {
-    profiles().into_iter().map(|p| build(p).list).collect()
+    let ports = full_ports(&[300, 500]);
+    ports.into_iter().map(|p| build(p).list).collect()
 }
 
 /// Seven objects: so many fixed, battery and variable, an AVS or none, and PPS for the rest.
@@ -119,7 +127,7 @@ pub fn lists() -> Vec<Words> {
     [built(), mixed()].concat()
 }
 
-/// A step more where the list has 3 A below 20 V. With a 5 A cable the rule check has to divide for it, and at 3 A it need not.
+/// A step more where the list has 3 A below 20 V. With a cable above 3 A the rule check has to divide for it, and at 3 A it need not.
 fn past_3_a(list: Words) -> Words {
     let words = list.words.map(|word| match decode(word) {
         Decoded::Known(Object::Fixed { volts, current, .. })
@@ -137,9 +145,9 @@ fn past_3_a(list: Words) -> Words {
 }
 
 pub fn checks() -> Vec<(Profile, Words)> {
-    let own: Vec<_> = profiles().into_iter().zip(built()).collect();
-    let with_5_a = own.iter().filter(|(profile, _)| profile.cable == 5);
-    let past = with_5_a
+    let own: Vec<_> = profiles().into_iter().map(|p| (p, build(p).list)).collect();
+    let above_3_a = own.iter().filter(|(profile, _)| profile.cable.0 > 300);
+    let past = above_3_a
         .map(|(profile, list)| (*profile, past_3_a(*list)))
         .collect();
     [own, past].concat()
@@ -264,9 +272,14 @@ pub fn bytes() -> Vec<Lent> {
     messages().into_iter().map(|(m, _)| lent(m)).collect()
 }
 
-/// Eight ports of every maximum that all have a cable and hold what the last of their list gives. The last port is asked for each place of its
-/// list.
+/// Eight ports of every maximum that all have a cable of 2, 4 or 5 A and hold what the last of their list gives. The last port is asked for each
+/// place of its list.
 pub fn with_all_ports_in_use() -> Vec<Turn> {
+    let cables = [200, 400, 500];
+    cables.into_iter().flat_map(all_in_use_by).collect()
+}
+
+fn all_in_use_by(cable: u16) -> Vec<Turn> {
     let mut turns = Vec::new();
     for max in 15..=200 {
         let row = Row {
@@ -278,13 +291,13 @@ pub fn with_all_ports_in_use() -> Vec<Turn> {
         rows[..8].fill(row);
         set_up(&mut rows[..8], 1600);
         for port in 1..=8 {
-            let list = attach(&mut rows[..8], 1600, port, 5).list;
+            let list = attach(&mut rows[..8], 1600, port, cable).list;
             request(&mut rows[..8], 1600, port, most_of(list, list.count - 1));
         }
         let list = build(Profile {
             max: row.max,
             present: row.max,
-            cable: 5,
+            cable: Ma10(cable),
             rounding: 0,
             pps: 1,
             flags: 0,
@@ -295,7 +308,7 @@ pub fn with_all_ports_in_use() -> Vec<Turn> {
             count: 8,
             capacity: 1600,
             port: 8,
-            cable: 5,
+            cable,
             word,
         }));
     }

@@ -2,7 +2,7 @@
 
 use arinduleu::ports::Row;
 use arinduleu::rules::Profile;
-use arinduleu::steps::HalfWatts;
+use arinduleu::steps::{HalfWatts, Ma10};
 
 pub const INPUTS: usize = 2000;
 
@@ -50,7 +50,7 @@ pub struct Turn {
     pub count: usize,
     pub capacity: u16,
     pub port: u8,
-    pub cable: u8,
+    pub cable: u16,
     pub word: u32,
 }
 
@@ -62,10 +62,14 @@ pub fn maxima() -> Vec<u16> {
     })
 }
 
-pub fn cable(dice: &mut Dice) -> u8 {
-    match dice.one_in(2) {
-        true => 3,
-        false => 5,
+/// Half are 3 A or 5 A, as cables that come off have it; the rest are captive leads, of 2 A, of 4 A, or of any rating.
+pub fn cable(dice: &mut Dice) -> u16 {
+    match dice.below(8) {
+        0 | 1 => 300,
+        2 | 3 => 500,
+        4 => 200,
+        5 => 400,
+        _ => dice.from(100, 500),
     }
 }
 
@@ -84,7 +88,7 @@ pub fn good_profile(dice: &mut Dice) -> Profile {
     Profile {
         max: HalfWatts(max),
         present: HalfWatts(present),
-        cable: cable(dice),
+        cable: Ma10(cable(dice)),
         rounding: dice.below(2) as u8,
         pps,
         flags,
@@ -99,7 +103,7 @@ pub fn profiles() -> Vec<Profile> {
             match dice.below(6) {
                 0 => profile.max = HalfWatts(dice.from(201, 400)),
                 1 => profile.present = HalfWatts(0),
-                2 => profile.cable = 4,
+                2 => profile.cable = Ma10(99),
                 3 => profile.rounding = 2,
                 4 => profile.flags = 64,
                 _ => (profile.pps, profile.present) = (1, HalfWatts(profile.max.0 / 2)),

@@ -164,7 +164,7 @@ pub fn checks() -> Vec<(Profile, Words)> {
 }
 
 /// The list that a row's stored P gives.
-pub fn row_list(max: HalfWatts, present: HalfWatts, cable: u8, pps: u8) -> Words {
+pub fn row_list(max: HalfWatts, present: HalfWatts, cable: Ma10, pps: u8) -> Words {
     let pps = u8::from(pps == 1 && present == max);
     build(Profile {
         max,

@@ -5,12 +5,12 @@ use crate::lists::row_list;
 use crate::objects::request;
 use crate::wrappers::library::{self, advertise, attach, detach, set_up};
 use arinduleu::ports::Row;
-use arinduleu::steps::HalfWatts;
+use arinduleu::steps::{HalfWatts, Ma10};
 
 pub const NO_ROW: Row = Row {
     max: HalfWatts(0),
     pps: 0,
-    cable: 0,
+    cable: Ma10(0),
     present: HalfWatts(0),
     held: HalfWatts(0),
 };
@@ -43,7 +43,7 @@ fn word_for(dice: &mut Dice, row: Row) -> u32 {
 fn step(dice: &mut Dice, turn: &mut Turn) {
     let at = dice.below(turn.count as u32) as usize;
     let (rows, port) = (&mut turn.rows[..turn.count], at as u8 + 1);
-    if rows[at].cable == 0 {
+    if rows[at].cable.0 == 0 {
         attach(rows, turn.capacity, port, cable(dice));
         return;
     }
@@ -110,12 +110,12 @@ fn turns(seed: u64, suits: impl Fn(&Row) -> bool) -> Vec<Turn> {
 }
 
 pub fn with_an_empty_port() -> Vec<Turn> {
-    turns(20, |row| row.cable == 0)
+    turns(20, |row| row.cable.0 == 0)
 }
 
 /// Of the requests one in four has a bit turned; others are refused with 36 where the other ports hold too much.
 pub fn with_a_port_in_use() -> Vec<Turn> {
-    turns(21, |row| row.cable != 0)
+    turns(21, |row| row.cable.0 != 0)
 }
 
 pub fn any() -> Vec<Turn> {
@@ -127,7 +127,7 @@ pub fn fresh() -> Vec<Turn> {
     many(23, |dice| {
         let mut turn = lent(dice);
         for row in &mut turn.rows {
-            row.cable = dice.any() as u8;
+            row.cable = Ma10(dice.any() as u16);
             row.present = HalfWatts(dice.any() as u16);
             row.held = HalfWatts(dice.any() as u16);
         }

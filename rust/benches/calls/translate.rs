@@ -72,7 +72,7 @@ pub struct PlainTurn {
     pub count: usize,
     pub capacity: u16,
     pub port: u8,
-    pub cable: u8,
+    pub cable: u16,
     pub word: u32,
 }
 
@@ -89,10 +89,10 @@ translate! {
     MessageReading => model::MessageReading: |r| model::MessageReading { verdict: r.verdict.plain(), message: r.message.plain() };
     Written => model::Written: |w| model::Written { verdict: w.verdict.plain(), length: w.length };
     Profile => model::Profile: |p| model::Profile {
-        max: p.max.0, present: p.present.0, cable: p.cable, rounding: p.rounding, pps: p.pps, flags: p.flags,
+        max: p.max.0, present: p.present.0, cable: p.cable.0, rounding: p.rounding, pps: p.pps, flags: p.flags,
     };
     Profiled => model::Profiled: |p| model::Profiled { verdict: p.verdict.plain(), profile: p.profile.plain() };
-    Row => model::Row: |r| model::Row { max: r.max.0, pps: r.pps, cable: r.cable, present: r.present.0, held: r.held.0 };
+    Row => model::Row: |r| model::Row { max: r.max.0, pps: r.pps, cable: r.cable.0, present: r.present.0, held: r.held.0 };
     RemainingPower => model::RemainingPower: |r| model::RemainingPower { verdict: r.verdict.plain(), power: r.power.0 };
     Object => model::Object: |o| match o {
         Object::Fixed { flags, peak, volts, current } => model::Object::Fixed { flags, peak, volts: volts.0, current: current.0 },

@@ -48,7 +48,7 @@ pub mod library {
         write_message(bytes: &mut [u8], message: Message) -> Written = board::arin_write_message(bytes, message);
 
         set_up(rows: &mut [Row], capacity: u16) -> Verdict = board::arin_set_up(rows, capacity);
-        attach(rows: &mut [Row], capacity: u16, port: u8, cable: u8) -> Listing = board::arin_attach(rows, capacity, port, cable);
+        attach(rows: &mut [Row], capacity: u16, port: u8, cable: u16) -> Listing = board::arin_attach(rows, capacity, port, cable);
         advertise(rows: &mut [Row], capacity: u16, port: u8) -> Listing = board::arin_advertise(rows, capacity, port);
         request(rows: &mut [Row], capacity: u16, port: u8, word: u32) -> Verdict = board::arin_request(rows, capacity, port, word);
         detach(rows: &mut [Row], capacity: u16, port: u8) -> Verdict = board::arin_detach(rows, capacity, port);
@@ -111,7 +111,7 @@ pub mod plain {
         write_message(bytes: &mut [u8], message: &Message) -> Written = model::write_message(bytes, message);
 
         set_up(rows: &mut [Row], capacity: u16) -> Verdict = model::set_up(rows, capacity);
-        attach(rows: &mut [Row], capacity: u16, port: u8, cable: u8) -> Listing = model::attach(rows, capacity, port, cable);
+        attach(rows: &mut [Row], capacity: u16, port: u8, cable: u16) -> Listing = model::attach(rows, capacity, port, cable);
         advertise(rows: &mut [Row], capacity: u16, port: u8) -> Listing = model::advertise(rows, capacity, port);
         request(rows: &mut [Row], capacity: u16, port: u8, word: u32) -> Verdict = model::request(rows, capacity, port, word);
         detach(rows: &mut [Row], capacity: u16, port: u8) -> Verdict = model::detach(rows, capacity, port);
