@@ -466,6 +466,7 @@ static void leads(void)
     CHECK(lists(arin_build(less), with_currents(200, 200, 134, 100)));
     CHECK(is(arin_check(less, with_currents(200, 200, 133, 100)), 0, 0));
     CHECK(is(arin_check(less, with_currents(200, 222, 134, 100)), 19, 2));
+    CHECK(is(arin_check(less, with_currents(200, 223, 134, 100)), 19, 2));
     CHECK(is(arin_check(less, with_currents(200, 200, 132, 100)), 19, 3));
     CHECK(is(arin_check(less, with_currents(200, 200, 135, 100)), 19, 3));
 
