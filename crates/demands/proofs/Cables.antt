@@ -4,7 +4,7 @@ use mathlib.Core.Path.{_≡_, refl, sym, ap, _∙_, subst}
 use mathlib.Core.Bool.{Bool, true, false, not, cond, true≢false}
 use mathlib.Core.Logic.{_↔_, _⊎_}
 use Prim.Native.Nat.{ℕ, _+_, _*_, _≤_, _<_, min}
-use native.Mathlib.Nat.{min-eq-left}
+use native.Mathlib.Nat.{le-antisymm, min-eq-left, min-eq-right}
 use native.Mathlib.Omega.{arith}
 use lib.Dec.{leb, eqb}
 use lib.ListN.{getD}
@@ -24,7 +24,7 @@ use Rattle.rules.specs.Profiles.{in10mA, buildRefusals}
 use Rattle.rules.specs.Tables.{Slot, Nothing, Fixed, Avs, Prog, slots}
 use Rattle.rules.specs.Currents.{downAt, upAt, roundedAs, builtCurrent, fixedAllowed, progDown, cableInWhole50mA, progCurrent}
 use Rattle.rules.specs.Building.{objectFor, builtWords, builtOf}
-use Rattle.rules.proofs.Allowed.{limit-3-A, up-to-300}
+use Rattle.rules.proofs.Allowed.{limit-3-A, up-from-3-A, up-to-300}
 use Rattle.rules.proofs.Slots.{slotGood}
 use Rattle.rules.proofs.Built.{current-within-cable, prog-within-cable}
 use Rattle.rules.proofs.BuiltPasses.{good, known}
@@ -44,6 +44,7 @@ use Rattle.demands.specs.Cables.{
   AttachedWithinCable,
   AdvertisedWithinCable,
   GreatestIn50mA,
+  OneFigureBelow3A,
   BuiltFrom3A,
   AllowedFrom3A,
   AllowedUncut,
@@ -107,6 +108,18 @@ greatest-in-50-mA p n = (
   (λ h. omega (arith, down-under (p .cable .0) 5)),
   (λ h. down-greatest (p .cable .0) 5 n (omega arith) (omega arith)),
 )
+
+-- ---- a cable below 3 A
+
+pub one-figure-below-3-A : OneFigureBelow3A
+one-figure-below-3-A p volts a c f pos h =
+    let cable = p .cable .0 in
+    let low : min 300 cable ≡ cable = min-eq-right (omega (arith, c)) in
+    let top : min cable (upAt p volts) ≡ cable = min-eq-left (omega (arith, c, up-from-3-A p volts pos h)) in
+    let past = allowed-past-3-A p volts a f h in (
+      (λ e. le-antisymm (subst (λ (n : ℕ). a ≤ n) top (past .0 e .1)) (subst (λ (n : ℕ). n ≤ a) low (past .0 e .0))),
+      (λ e. past .1 (omega (arith, low, e), omega (arith, top, e))),
+    )
 
 -- ---- a cable of 3 A or more
 

@@ -66,6 +66,13 @@ AdvertisedWithinCable =
 abbrev pub GreatestIn50mA : Type 0
 GreatestIn50mA = (p : Profile) (n : ℕ) → (n ≤ cableInWhole50mA p) ↔ (n * 50 ≤ ma10 (p .cable))
 
+-- ---- "With a cable below 3 A, the first row leaves one figure, the cable."
+
+abbrev pub OneFigureBelow3A : Type 0
+OneFigureBelow3A =
+    (p : Profile) (volts a : ℕ) → p .cable .0 < 300 → (volts ≡ 20 → ⊥) → 0 < volts → 6 * volts < p .present .0
+    → (fixedAllowed p volts a ≡ true) ↔ (a ≡ p .cable .0)
+
 -- ---- "With a cable of 3 A or more": 5, 9 and 15 V, which are the voltages of a list that are not 20; a is a current in 10 mA
 
 -- "what is built is the quotient rounded as R says and at most 3 A"
