@@ -64,7 +64,7 @@ where
     }
 }
 
-/// A call over lent rows has rows to write to, copied anew from the prepared table each time: 72 bytes on either side.
+/// A call over lent rows has rows to write to, copied anew from the prepared table each time: 90 bytes on either side.
 fn over_rows<T, P: Copy, R>(
     turns: &[T],
     rows_of: impl Fn(&T) -> ([P; 9], usize),
