@@ -27,7 +27,7 @@ pub struct Mv50(pub u16);
 #[repr(C)]
 pub struct Mv100(pub u16);
 
-// Current in steps of 10 mA: fixed, variable and AVS objects.
+// Current in steps of 10 mA: fixed, variable and AVS objects, and what a cable carries.
 #[repr(C)]
 pub struct Ma10(pub u16);
 
