@@ -2,9 +2,9 @@
 -- Assumes nothing.
 use mathlib.Core.Path.{_≡_, refl, sym, ap, _∙_, subst}
 use mathlib.Core.Bool.{Bool, true, false, not, cond, true≢false}
-use mathlib.Core.Logic.{_↔_, _⊎_}
+use mathlib.Core.Logic.{_↔_, _⊎_, ⊎-elim}
 use Prim.Native.Nat.{ℕ, _+_, _*_, _≤_, _<_, min}
-use native.Mathlib.Nat.{le-antisymm, min-eq-left, min-eq-right}
+use native.Mathlib.Nat.{le-antisymm, min-le-left, min-le-right, min-eq-left, min-eq-right}
 use native.Mathlib.Omega.{arith}
 use lib.Dec.{leb, eqb}
 use lib.ListN.{getD}
@@ -22,9 +22,9 @@ use Rattle.lists.specs.declared.Listing.{Listing}
 use Rattle.rules.specs.declared.Profile.{Profile}
 use Rattle.rules.specs.Profiles.{in10mA, buildRefusals}
 use Rattle.rules.specs.Tables.{Slot, Nothing, Fixed, Avs, Prog, slots}
-use Rattle.rules.specs.Currents.{downAt, upAt, roundedAs, builtCurrent, fixedAllowed, progDown, cableInWhole50mA, progCurrent}
+use Rattle.rules.specs.Currents.{downAt, upAt, roundedAs, builtCurrent, above3A, fixedAllowed, progDown, cableInWhole50mA, progCurrent}
 use Rattle.rules.specs.Building.{objectFor, builtWords, builtOf}
-use Rattle.rules.proofs.Allowed.{limit-3-A, up-from-3-A, up-to-300}
+use Rattle.rules.proofs.Allowed.{limit-3-A, above-3-A-means, up-from-3-A, up-to-300}
 use Rattle.rules.proofs.Slots.{slotGood}
 use Rattle.rules.proofs.Built.{current-within-cable, prog-within-cable}
 use Rattle.rules.proofs.BuiltPasses.{good, known}
@@ -43,6 +43,8 @@ use Rattle.demands.specs.Cables.{
   BuiltWithinCable,
   AttachedWithinCable,
   AdvertisedWithinCable,
+  AllowedWithinCable,
+  ProgAllowedWithinCable,
   GreatestIn50mA,
   OneFigureBelow3A,
   BuiltFrom3A,
@@ -52,7 +54,7 @@ use Rattle.demands.specs.Cables.{
   CableByte,
 }
 use Rattle.demands.proofs.SharingRefusals.{attach-refusals, advertise-refusals}
-use Rattle.demands.proofs.PowerRules.{built-clear, built-list, allowed-past-3-A, allowed-to-3-A}
+use Rattle.demands.proofs.PowerRules.{built-clear, built-list, cut-roundings, allowed-past-3-A, allowed-to-3-A, prog-allowed-exactly}
 
 -- ---- no built current passes the cable
 
@@ -100,6 +102,27 @@ advertised-within-cable ys capacity port r zs e s =
     subst (EachCarried (portRow ys port .cable)) (listed (e .0 ∙ all-missed writeRefused _ (useRefusals capacity ys port) x))
     (rule-list-carried (offeredAgain capacity ys port)
     (list-offered capacity ys port (use-port capacity ys port x) (portRow ys port .cable .0) (cable-kept capacity ys port x)))
+
+-- ---- and no allowed one does
+
+pub allowed-within-cable : AllowedWithinCable
+allowed-within-cable p volts a e = go (above3A p volts) refl where
+  cable : ℕ
+  cable = p .cable .0
+
+  go : (b : Bool) → above3A p volts ≡ b → a * 10 ≤ cable * 10
+  go true t =
+      let s = above-3-A-means p volts t in
+      omega (arith, allowed-past-3-A p volts a (s .0) (s .1) .0 e .1, min-le-left cable (upAt p volts))
+  go false t =
+      ⊎-elim (λ z. omega (arith, z, min-le-right (downAt p volts) cable)) (λ z. omega (arith, z, min-le-right (upAt p volts) cable))
+      (cut-roundings p volts a t .0 e)
+
+pub prog-allowed-within-cable : ProgAllowedWithinCable
+prog-allowed-within-cable p volts a e =
+    ⊎-elim (λ z. omega (arith, z, prog-within-cable p volts))
+    (λ z. omega (arith, z .1 .1, min-le-right (progDown p volts) (cableInWhole50mA p), down-under (p .cable .0) 5))
+    (prog-allowed-exactly p volts a .0 e)
 
 -- ---- the cable in whole 50 mA
 

@@ -88,7 +88,7 @@ either-figure a b c = (
 )
 
 -- where P is not above 3 A, and at 20 V, one row
-cut-roundings : (p : Profile) (volts a : ℕ) → above3A p volts ≡ false
+pub cut-roundings : (p : Profile) (volts a : ℕ) → above3A p volts ≡ false
     → (fixedAllowed p volts a ≡ true) ↔ ((a ≡ min (downAt p volts) (p .cable .0)) ⊎ (a ≡ min (upAt p volts) (p .cable .0)))
 cut-roundings p volts a e = rw (not-above-3-A p volts a e) (either-figure a (min (downAt p volts) (p .cable .0)) (min (upAt p volts) (p .cable .0)))
 

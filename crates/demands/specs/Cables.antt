@@ -1,7 +1,8 @@
--- Captive cables (T-05): no current that is built passes what the cable carries, the cable in whole 50 mA is the greatest figure that it can be,
--- and with a cable of 3 A or more the limits at 5, 9 and 15 V do not look at the cable but for the upper end of what is allowed past 3 A. Each claim is
--- proved by the theorem of its name in small letters in proofs/Cables.antt (docs/STATEMENT.md, "The builder", "The rule check" and "The listing
--- program"). Words are looked up from 0 on.
+-- Captive cables (T-05): no current that is built or allowed passes what the cable carries; what the cable in whole 50 mA is; that a cable below 3 A leaves
+-- one figure past 3 A, and that one of 3 A or more changes nothing at 5, 9 and 15 V but the upper end of what is allowed past 3 A; and which bytes of a
+-- record are a cable. What is said of single currents is said of the definitions that `build` and `check` answer by. Each claim is proved by the
+-- theorem of its name in small letters in proofs/Cables.antt (docs/STATEMENT.md, "The builder", "The rule check" and "The listing program"). Words are looked
+-- up from 0 on.
 -- Assumes nothing.
 use mathlib.Core.Path.{_≡_}
 use mathlib.Core.Bool.{true, not}
@@ -21,7 +22,7 @@ use Rattle.lists.specs.declared.Words.{Words}
 use Rattle.lists.specs.declared.Listing.{Listing}
 use Rattle.rules.specs.declared.Profile.{Profile}
 use Rattle.rules.specs.Profiles.{in10mA, badCable}
-use Rattle.rules.specs.Currents.{downAt, upAt, roundedAs, builtCurrent, fixedAllowed, progDown, cableInWhole50mA, progCurrent}
+use Rattle.rules.specs.Currents.{downAt, upAt, roundedAs, builtCurrent, fixedAllowed, progDown, cableInWhole50mA, progCurrent, progAllowed}
 use Rattle.ports.specs.declared.Row.{Row}
 use Rattle.ports.specs.Rows.{portRow}
 use Rattle.board.specs.Promises.{SharesAttach, SharesAdvertise}
@@ -61,6 +62,14 @@ AdvertisedWithinCable =
     (ys : List Row) (capacity port : ℕ) (r : Listing) (zs : List Row) → SharesAdvertise ys capacity port r zs
     → r .verdict ≡ success → EachCarried (portRow ys port .cable) (r .list)
 
+-- ---- "So no allowed current passes the cable either": a is a current in 10 mA, of PPS in 50 mA. Those of AVS are fixed ones (17)
+
+abbrev pub AllowedWithinCable : Type 0
+AllowedWithinCable = (p : Profile) (volts a : ℕ) → fixedAllowed p volts a ≡ true → a * 10 ≤ ma10 (p .cable)
+
+abbrev pub ProgAllowedWithinCable : Type 0
+ProgAllowedWithinCable = (p : Profile) (volts a : ℕ) → progAllowed p volts a ≡ true → a * 50 ≤ ma10 (p .cable)
+
 -- ---- "the greatest figure of 50 mA that is not above the cable"
 
 abbrev pub GreatestIn50mA : Type 0
@@ -97,7 +106,8 @@ AllowedUncut =
 abbrev pub ProgFrom3A : Type 0
 ProgFrom3A = (p : Profile) (volts : ℕ) → 300 ≤ p .cable .0 → (volts ≡ 20 → ⊥) → progCurrent p volts ≡ min (progDown p volts) 60
 
--- ---- "10 to 50 stand for 1 A to 5 A, and any other byte is refused with 3, in its turn"
+-- ---- "10 to 50 stand for 1 A to 5 A": the cable of a record is out of range exactly where its byte is. That it is refused with 3, in its turn, is
+-- `BuildRefusals` (Refusals)
 
 abbrev pub CableByte : Type 0
 CableByte = (s : List ℕ) (at : ℕ) → badCable (profileAt s at .cable .0) ≡ not (within 10 50 (getD s (at + 4) 0))

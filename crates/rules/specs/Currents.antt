@@ -20,7 +20,7 @@ abbrev pub roundedAs : ℕ → ℕ → ℕ → ℕ
 roundedAs zero down up = down
 roundedAs (suc n) down up = up
 
--- of a limit of 3 A for all but 20 V, and of the cable for all: "at most 3 A at 5, 9 and 15 V, and at every voltage at most the cable"
+-- the limit at a voltage, from 3 A and the cable in one step: "at most 3 A at 5, 9 and 15 V, and at every voltage at most the cable"
 abbrev pub limitBy : ℕ → ℕ → ℕ → ℕ
 limitBy volts threeA cable = cond (eqb volts 20) cable (min threeA cable)
 
