@@ -78,7 +78,7 @@
 
 /*
  * A cable is what it carries, as a number of 10 mA. From whole amperes, and from amperes and tenths: ARIN_AMPERES(5) is 500, and
- * ARIN_AMPERES_AND_TENTHS(2, 5), 2.5 A, is 250. Of a constant they are one too. A cable is 100..500: a bare number of amperes, as 3
+ * ARIN_AMPERES_AND_TENTHS(2, 5), 2.5 A, is 250. Of constants they are constants. A cable is 100..500: a bare number of amperes, as 3
  * or 5, is refused with 3, and never taken for another cable.
  */
 #define ARIN_AMPERES(amperes) (100 * (amperes))
@@ -114,7 +114,7 @@ struct arin_verdict {
     uint8_t place;  /* counts from 1; 0 where there is none */
 };
 
-/* What a list is built for and checked against. */
+/* What a list is built for and checked against. A byte behind flags belongs to no field: compare profiles field by field. */
 struct arin_profile {
     uint16_t max;     /* port maximum, half watts, 1..200 */
     uint16_t present; /* present power, half watts, 1..max */

@@ -1,4 +1,4 @@
-//! Inputs that ask for the most work: every full port with its own list, on a lead that cuts every current, on one that cuts the highest and on
+//! Inputs that ask for the most work: every full port with its own list, on a lead that cuts most currents, on one that cuts the highest and on
 //! cables that cut none or few, and for the rule check with a step past 3 A; lists of seven objects in every mix of kinds, of a source and of
 //! a sink; and eight rows that are all in use. They stand beside the seeded ones where the most that a
 //! call takes is looked for.

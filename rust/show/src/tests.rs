@@ -141,6 +141,10 @@ fn a_cable_is_asked_for_in_amperes() {
     }
     for figure in 100..=500 {
         let line = format!("36 --cable {}.{:02}", figure / 100, figure % 100);
+        let Ok(Asked::Port(profile)) = asked(&words(&line)) else {
+            panic!("{line}");
+        };
+        assert_eq!(profile.cable, Ma10(figure), "{line}");
         assert!(text_of(&line).is_ok(), "{line}");
     }
 }

@@ -160,8 +160,8 @@ fn to_check(random: &mut Random, any: Profile) -> (Profile, Words) {
     }
 }
 
-/// Currents at and beside what a list may have: the quotient either way, 3 A, the cable, in whole 50 mA for PPS. AVS takes those of its fixed objects along, or
-/// 17 would hide 19.
+/// Currents at and beside what a list may have: the quotient either way, 3 A, the cable, in whole 50 mA for PPS. AVS takes
+/// those of its fixed objects along, or 17 would hide 19.
 fn other_currents(random: &mut Random, own: Profile, list: &mut Words) {
     for at in 0..usize::from(list.count) {
         if random.bool() {

@@ -99,8 +99,8 @@ fn allowed_currents() {
     }
 }
 
-/// "With a cable of 3 A or more, the cable cuts nothing at 5, 9 and 15 V but the upper end of the
-/// first row".
+/// "With a cable of 3 A or more, nothing of the fixed objects of 5, 9 and 15 V is cut to it but the
+/// upper end of that row".
 #[test]
 fn three_amperes_or_more() {
     for cable in 300..=500 {
