@@ -11,9 +11,9 @@ use std::path::{Path, PathBuf};
 use std::{env, fs};
 
 /// The crates of the library, as `crates.txt` has them. `demands` and `printed` have no code, and the rest are programs.
-const LIBRARY: [&str; 11] = [
-    "verdicts", "steps", "objects", "lists", "rules", "requests", "messages", "sinks", "ports",
-    "flat", "board",
+const LIBRARY: [&str; 12] = [
+    "verdicts", "steps", "objects", "lists", "rules", "requests", "summaries", "messages", "sinks",
+    "ports", "flat", "board",
 ];
 
 fn main() {

@@ -12,7 +12,7 @@ use contract.Monad.{fact}
 use Rattle.ports.specs.Rows.{rowOf}
 use Rattle.ports.specs.Standing.{standingOf, placeOf}
 use Rattle.board.specs.Rows.{emptiedTo}
-use Rattle.board.proofs.Data.{number, flag}
+use Rattle.summaries.proofs.Data.{number, flag}
 use Rattle.board.proofs.Structs.{half-watts, row, standing}
 use Rattle.board.proofs.Known.{Lent, Given}
 pub use Rattle.board.proofs.rows.stand.Symbol.{name as #stand}

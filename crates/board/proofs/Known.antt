@@ -38,17 +38,12 @@ use denote.Triple.Clauses.{Ended, Clauses, closing, ensured, lasts, Lasts}
 use denote.Triple.End.{all}
 use denote.Triple.Spec.{tripleOf}
 use Rattle.ports.specs.declared.Row.{Row}
+use Rattle.summaries.proofs.Values.{endedValues, clausesValues}
 use Rattle.board.proofs.Structs.{R}
-use Rattle.board.proofs.Data.{Data, unit, IsA, Tuple, AreA, slots, Values, machine, placed, taken, as-placed, facts, owned-all}
+use Rattle.summaries.proofs.Data.{Data, unit, IsA, Tuple, AreA, slots, Values, machine, placed, taken, as-placed, facts, owned-all}
 use Rattle.board.proofs.Lent.{Loan, under, mine, theirs, token, slice, kept, lends-shared, shared-back}
 
 -- ---- the contracts
-
-abbrev endedValues : List Data → Data → Ended
-endedValues ds d = record {
-  signature = record { lifetimes = 0; outlives = []; params = slots 0 ds; result = plain (λ _. d .type) };
-  kept = all yes (slots 0 ds);
-}
 
 abbrev pub endedLent : List Data → Data → Ended
 endedLent ds d = record {
@@ -73,9 +68,6 @@ endedMut ds d = record {
 }
 
 module _ {M : Type 1} (𝓤 : URA M) (ds : List Data) where
-  abbrev clausesValues : (d : Data) → (Tuple ds → d .type .Denot) → Clauses 𝓤 (endedValues ds d)
-  clausesValues d F κs a = record { ghost = Unit {0}; requires = λ _. emp 𝓤; ensures = λ _ r e. fact 𝓤 (r ≡ F (taken 0 κs ds a)) }
-
   abbrev pub clausesLent : (d : Data) → (List Row → Tuple ds → d .type .Denot → Type 0) → Clauses 𝓤 (endedLent ds d)
   clausesLent d Says κs a = record {
     ghost = Unit {0};

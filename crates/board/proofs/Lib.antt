@@ -1,8 +1,6 @@
-pub mod Data
 pub mod Structs
 pub mod Lent
 pub mod Known
-pub mod Cells
 pub mod Meeting
 pub mod EmptiedTo
 pub mod Callees

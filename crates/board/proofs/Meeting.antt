@@ -34,7 +34,7 @@ use denote.Triple.Spec.{Meets}
 use denote.Triple.Walked.{says, needs, Stay, Stays, stay-none-slice, stay-slice, gave-slice, walkOf, Goes, goes-none-slice, goes-slice, goes-gave-slice, ends-at, walked, walk-meets}
 use Rattle.ports.specs.declared.Row.{Row}
 use Rattle.board.proofs.Structs.{R}
-use Rattle.board.proofs.Data.{Data, unit, IsA, Tuple, slots, stays, Values, spells, tellss, machine, Facts, taken, lasts, has, fits, had, goes}
+use Rattle.summaries.proofs.Data.{Data, unit, IsA, Tuple, slots, stays, Values, spells, tellss, machine, Facts, taken, lasts, has, fits, had, goes}
 use Rattle.board.proofs.Lent.{Loan, under, obs, bor, mine, theirs, token, slice}
 use Rattle.board.proofs.Known.{endedLent, endedMut, clausesLent, clausesMut, argsAt}
 

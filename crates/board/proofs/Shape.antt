@@ -43,10 +43,10 @@ use Rattle.ports.specs.Standing.{standingOf, placeOf}
 use Rattle.ports.proofs.Row.Laws as Row′
 use Rattle.ports.proofs.Standing.Laws as Standing′
 use Rattle.ports.proofs.Change.Laws as Change″
-use Rattle.board.proofs.Data.{Data, number, IsA, Tuple, AreA, stored, slots, machine, placed}
+use Rattle.summaries.proofs.Data.{Data, number, IsA, Tuple, AreA, stored, slots, machine, placed}
 use Rattle.board.proofs.Structs.{half-watts, row, standing, change, half-watts-is, at-is, row-is, R}
 use Rattle.board.proofs.Lent.{stored-slice, Loan, mine, token, slice}
-use Rattle.board.proofs.Cells.{Blocks, envOf, block, cells}
+use Rattle.summaries.proofs.Cells.{Blocks, envOf, block, cells}
 use Rattle.board.proofs.Known.{ByValue, calls, lends, gives}
 use Rattle.board.proofs.Callees.{#stand, #row-of, #put-row, Stands, RowOf, PutsRow}
 

@@ -37,7 +37,7 @@ use Rattle.ports.specs.declared.Row.{Row}
 use Rattle.ports.specs.declared.Standing.{Standing}
 use Rattle.ports.specs.declared.Change.{Change}
 use Rattle.ports.specs.Rows.{noRow}
-use Rattle.board.proofs.Data.{Data, number, struct, IsA}
+use Rattle.summaries.proofs.Data.{Data, number, struct, IsA}
 
 abbrev pub verdict : Data
 verdict = struct v.the-type v′.the-laws v′.the-copy v′.the-plain

@@ -1,5 +1,6 @@
 pub mod ListPromises
 pub mod SinkPromises
+pub mod SummaryPromises
 pub mod MessagePromises
 pub mod Rows
 pub mod Promises

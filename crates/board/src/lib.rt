@@ -1,10 +1,11 @@
 // What firmware calls: the sharing calls over lent rows (docs/STATEMENT.md, "Ports that share"), every call on lists, those of
-// sinks too, and whole messages, each under a C name that begins with `arin_`. `rt staticlib board` makes one archive of them.
+// sinks too, summaries, and whole messages, each under a C name that begins with `arin_`. `rt staticlib board` makes one archive of them.
 mod listing;
 mod messaging;
 mod rows;
 mod sharing;
 mod sinking;
+mod summing;
 
 pub use listing::arin_answer;
 pub use listing::arin_build;
@@ -26,3 +27,6 @@ pub use sinking::arin_sink_check;
 pub use sinking::arin_sink_read;
 pub use sinking::arin_sink_shape;
 pub use sinking::arin_sink_write;
+pub use summing::arin_answer_summary;
+pub use summing::arin_summarize;
+pub use summing::arin_take_request;

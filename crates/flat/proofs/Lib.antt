@@ -1,5 +1,6 @@
 pub mod BothWays
 pub mod Saying
+pub mod Requests
 pub mod NoKind
 pub mod Readings
 pub mod Unread

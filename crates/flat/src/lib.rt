@@ -1,7 +1,8 @@
-// Objects as C takes them. `objects::Object` is an enum with data, which no C struct is: here is one struct for all five
-// kinds, and the lists of `lists` are read and written with it, those of a sink too.
+// Objects and decoded requests as C takes them. `objects::Object` is an enum with data, which no C struct is: here is one struct for all
+// five kinds, and the lists of `lists` are read and written with it, those of a sink too. A decoded request is such a struct likewise.
 mod flattening;
 mod reading;
+mod requesting;
 mod writing;
 
 pub use flattening::flatten;
@@ -9,8 +10,12 @@ pub use flattening::raise;
 use objects::Object;
 pub use reading::flat_read;
 pub use reading::flat_read_for;
+pub use requesting::flat_answer_summary;
+pub use requesting::flat_take_request;
 use steps::Ma10;
 use steps::Ma50;
+use steps::Mv20;
+use steps::Mv25;
 use steps::Mv50;
 use steps::Mv100;
 use steps::Mw250;
@@ -92,6 +97,49 @@ pub enum Raised {
     // The kind number is none of the five.
     Unknown,
 }
+
+// A decoded request of any kind: each field has one step of measure. A field that a kind does not have is zero when it is given out, and not
+// read when it is taken in.
+#[repr(C)]
+pub struct FlatRequest {
+    // The kind of the object at its position, as above. A request to a battery object is for the list: a summary refuses it with 12.
+    pub kind: u8,
+    // The place of the object that it names, from 1.
+    pub position: u8,
+    // Capability mismatch, bit 26: 0 where it is clear, any other number where it is set.
+    pub mismatch: u8,
+    // Fixed and variable: the operating current, in 10 mA.
+    pub operating: Ma10,
+    // Fixed and variable: the maximum operating current, in 10 mA.
+    pub maximum: Ma10,
+    // PPS: the voltage, in 20 mV.
+    pub volts20: Mv20,
+    // AVS: the voltage, in 25 mV.
+    pub volts25: Mv25,
+    // PPS and AVS: the operating current, in 50 mA.
+    pub current50: Ma50,
+}
+
+// What decoding gives: on a refusal the request is all zero, so that no position is named.
+#[repr(C)]
+pub struct FlatTaken {
+    // The first refusal that applies, or success.
+    pub verdict: Verdict,
+    // The decoded request.
+    pub request: FlatRequest,
+}
+
+// No request, as it is on every refusal.
+const NO_REQUEST: FlatRequest = FlatRequest {
+    kind: KIND_FIXED,
+    position: 0,
+    mismatch: 0,
+    operating: Ma10(0),
+    maximum: Ma10(0),
+    volts20: Mv20(0),
+    volts25: Mv25(0),
+    current50: Ma50(0),
+};
 
 // A place past the count: a fixed object with all fields zero.
 const EMPTY_FLAT: FlatObject = FlatObject {

@@ -37,10 +37,10 @@ use Rattle.ports.proofs.emptied.Symbol.{name as #emptied}
 use Rattle.ports.proofs.emptied.Met as emptied-thm
 use Rattle.board.specs.Rows.{emptiedTo}
 use Rattle.board.proofs.EmptiedTo.{length-emptied}
-use Rattle.board.proofs.Data.{Data, number, Tuple, Values, Facts, stored}
+use Rattle.summaries.proofs.Data.{Data, number, Tuple, Values, Facts, stored}
 use Rattle.board.proofs.Structs.{row, R, vals, row-bytes, offset-fits}
 use Rattle.board.proofs.Lent.{stored-slice, Loan, obs, bor, token, slice}
-use Rattle.board.proofs.Cells.{Blocks, envOf, block, cells, allocates, releases, got, got-field, sets, resets, keeps}
+use Rattle.summaries.proofs.Cells.{Blocks, envOf, block, cells, allocates, releases, got, got-field, sets, resets, keeps}
 use Rattle.board.proofs.Known.{ByValue, calls}
 use Rattle.board.proofs.Meeting.{PostWritten, WalkWritten, ends-written, meets-asking}
 use Rattle.board.proofs.rows.empty_rows.Key.{name as #empty-rows}

@@ -24,10 +24,10 @@ use denote.Index.{place-is, elem-out, elem-put, opens-slice, closes-slice}
 use denote.Steps.{owned}
 use denote.Triple.Table.{entered}
 use Rattle.ports.specs.declared.Row.{Row}
-use Rattle.board.proofs.Data.{Data, number, Tuple, stored}
+use Rattle.summaries.proofs.Data.{Data, number, Tuple, stored}
 use Rattle.board.proofs.Structs.{row, R, vals, row-bytes, offset-fits}
 use Rattle.board.proofs.Lent.{stored-slice}
-use Rattle.board.proofs.Cells.{envOf, block, allocates, releases-full, got, got-field, sets}
+use Rattle.summaries.proofs.Cells.{envOf, block, allocates, releases-full, got, got-field, sets}
 use Rattle.board.proofs.Meeting.{PostWritten, WalkWritten, ends-written, meets-written}
 use Rattle.board.proofs.rows.put_row.Key.{name as #put-row}
 use Rattle.board.proofs.rows.put_row.Statement as stated

@@ -28,10 +28,10 @@ use Rattle.ports.specs.Rows.{noRow, rowOf}
 use Rattle.ports.specs.Standing.{placeOf}
 use Rattle.ports.proofs.place_of.Symbol.{name as #place-of}
 use Rattle.ports.proofs.place_of.Met as place-thm
-use Rattle.board.proofs.Data.{Data, number, Tuple, stored}
+use Rattle.summaries.proofs.Data.{Data, number, Tuple, stored}
 use Rattle.board.proofs.Structs.{half-watts, ma10, row, standing, half-watts-is, ma10-is, no-row-is, R, vals, row-bytes, offset-fits, copies}
 use Rattle.board.proofs.Lent.{stored-slice, theirs, slice, under}
-use Rattle.board.proofs.Cells.{envOf, block, allocates, releases, releases-full, got, got-field, sets, keeps}
+use Rattle.summaries.proofs.Cells.{envOf, block, allocates, releases, releases-full, got, got-field, sets, keeps}
 use Rattle.board.proofs.Known.{ByValue, calls}
 use Rattle.board.proofs.Meeting.{PostLent, WalkLent, ends-lent, meets-lent}
 use Rattle.board.proofs.rows.row_of.Key.{name as #row-of}

@@ -41,10 +41,10 @@ use Rattle.ports.proofs.goes_on.Symbol.{name as #goes-on}
 use Rattle.ports.proofs.goes_on.Met as goes-thm
 use Rattle.ports.proofs.take_row.Symbol.{name as #take-row}
 use Rattle.ports.proofs.take_row.Met as take-thm
-use Rattle.board.proofs.Data.{Data, number, flag, Tuple, Values, Facts, IsA, stored}
+use Rattle.summaries.proofs.Data.{Data, number, flag, Tuple, Values, Facts, IsA, stored}
 use Rattle.board.proofs.Structs.{half-watts, row, standing, R, vals, row-bytes, offset-fits, copies}
 use Rattle.board.proofs.Lent.{stored-slice, Loan, theirs, token, slice, under}
-use Rattle.board.proofs.Cells.{Blocks, envOf, block, cells, allocates, releases, got, got-field, sets, resets, keeps}
+use Rattle.summaries.proofs.Cells.{Blocks, envOf, block, cells, allocates, releases, got, got-field, sets, resets, keeps}
 use Rattle.board.proofs.Known.{ByValue, calls, calls-last}
 use Rattle.board.proofs.Meeting.{PostLent, WalkLent, ends-lent, meets-lent}
 use Rattle.board.proofs.rows.stand.Key.{name as #stand}

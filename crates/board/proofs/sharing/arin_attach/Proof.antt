@@ -27,10 +27,10 @@ use Rattle.ports.proofs.attach.Met as decide-met
 use Rattle.ports.proofs.offer.Symbol as offer
 use Rattle.ports.proofs.offer.Met as offer-met
 use Rattle.board.specs.Promises.{SharesAttach}
-use Rattle.board.proofs.Data.{Data, number, IsA, Tuple, stored}
+use Rattle.summaries.proofs.Data.{Data, number, IsA, Tuple, stored}
 use Rattle.board.proofs.Structs.{listing, half-watts, ma10, ma10-is, row, standing, change}
 use Rattle.board.proofs.Lent.{stored-slice}
-use Rattle.board.proofs.Cells.{allocates, releases-full, got, keeps, sets}
+use Rattle.summaries.proofs.Cells.{allocates, releases-full, got, keeps, sets}
 use Rattle.board.proofs.Known.{ByValue, calls}
 use Rattle.board.proofs.Meeting.{WalkGiven, ends-given, meets-given}
 use Rattle.board.proofs.Callees.{#stand, #row-of, #put-row, Stands, RowOf, PutsRow}

@@ -22,10 +22,10 @@ use Rattle.ports.proofs.Said.{remaining-said}
 use Rattle.ports.proofs.remaining.Symbol as decide
 use Rattle.ports.proofs.remaining.Met as decide-met
 use Rattle.board.specs.Promises.{SharesRemaining}
-use Rattle.board.proofs.Data.{Data, number, Tuple, stored}
+use Rattle.summaries.proofs.Data.{Data, number, Tuple, stored}
 use Rattle.board.proofs.Structs.{half-watts, standing, remaining-power, half-watts-is}
 use Rattle.board.proofs.Lent.{stored-slice}
-use Rattle.board.proofs.Cells.{allocates, releases-full, got, sets, resets, keeps}
+use Rattle.summaries.proofs.Cells.{allocates, releases-full, got, sets, resets, keeps}
 use Rattle.board.proofs.Known.{ByValue, calls, passes-on}
 use Rattle.board.proofs.Meeting.{WalkLent, ends-lent, meets-lent}
 use Rattle.board.proofs.Callees.{#stand, Stands}

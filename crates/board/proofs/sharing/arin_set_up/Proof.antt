@@ -29,10 +29,10 @@ use Rattle.ports.proofs.all_or_none.Met as count-met
 use Rattle.board.specs.Rows.{emptiedTo}
 use Rattle.board.specs.Promises.{SharesSetUp}
 use Rattle.board.proofs.EmptiedTo.{length-emptied, set-up-emptied}
-use Rattle.board.proofs.Data.{Data, number, Tuple, stored}
+use Rattle.summaries.proofs.Data.{Data, number, Tuple, stored}
 use Rattle.board.proofs.Structs.{verdict, half-watts, standing, half-watts-is, fault-is}
 use Rattle.board.proofs.Lent.{stored-slice}
-use Rattle.board.proofs.Cells.{allocates, releases-full, got, got-field, sets, keeps}
+use Rattle.summaries.proofs.Cells.{allocates, releases-full, got, got-field, sets, keeps}
 use Rattle.board.proofs.Known.{ByValue, calls, lends, gives}
 use Rattle.board.proofs.Meeting.{WalkGiven, ends-given, meets-given}
 use Rattle.board.proofs.Callees.{#stand, #empty-rows, Stands, EmptiesRows}

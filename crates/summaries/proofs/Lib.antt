@@ -1,0 +1,9 @@
+pub mod Data
+pub mod Cells
+pub mod Values
+pub mod Rows
+pub mod NarrowFigures
+pub mod Makings
+pub mod Takings
+pub mod Judgings
+pub mod Answers

@@ -1,0 +1,5 @@
+pub mod Narrow
+pub mod Summaries
+pub mod Taking
+pub mod Answering
+pub mod Promises

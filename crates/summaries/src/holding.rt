@@ -1,0 +1,19 @@
+// A summary put together and taken apart. A field that is an array of arrays is walked by hand, so these two are all that touch it.
+ghost use mathlib.Core.Path.{_≡_};
+ghost use Rattle.summaries.specs.Summaries.{summaryWith};
+ghost use Rattle.summaries.specs.Promises.{HasRows};
+use crate::Summary;
+
+// So many rows count, and these are all seven.
+pub(crate) fn hold(count: u8, rows: [[u16; 4]; 7]) -> Summary
+    ensures { λ r. ⌜ r ≡ summaryWith count rows ⌝ }
+{
+    Summary { count, rows }
+}
+
+// The seven rows of a summary. Nothing is refused: rows past the count are given as they stand.
+pub fn rows_of(summary: Summary) -> [[u16; 4]; 7]
+    ensures { λ r. ⌜ HasRows summary r ⌝ }
+{
+    summary.rows
+}
