@@ -25,6 +25,8 @@ use sink_lines::sink_check_line;
 use sink_lines::sink_read_line;
 use sink_lines::sink_shape_line;
 use sink_lines::sink_write_line;
+use summary_lines::quick_line;
+use summary_lines::summary_line;
 
 fn begins(line: &[u8], name: &[u8]) -> bool {
     if line.len() < name.len() {
@@ -54,6 +56,16 @@ fn answer_sink_line(line: &[u8], out: &mut [u8; 4096], end: usize) -> usize {
         return sink_check_line(line, 9, out, end);
     }
     put_unreadable(out, end)
+}
+
+fn answer_summary_line(line: &[u8], out: &mut [u8; 4096], end: usize) -> usize {
+    if begins(line, b"summary") {
+        return summary_line(line, 7, out, end);
+    }
+    if begins(line, b"quick") {
+        return quick_line(line, 5, out, end);
+    }
+    answer_sink_line(line, out, end)
 }
 
 fn answer_list_line(line: &[u8], out: &mut [u8; 4096], end: usize) -> usize {
@@ -87,7 +99,7 @@ fn answer_list_line(line: &[u8], out: &mut [u8; 4096], end: usize) -> usize {
     if begins(line, b"answer") {
         return answer_call_line(line, 6, out, end);
     }
-    answer_sink_line(line, out, end)
+    answer_summary_line(line, out, end)
 }
 
 pub(crate) fn answer_line(line: &[u8], table: Table, out: &mut [u8; 4096], end: usize) -> Answered {
