@@ -7,7 +7,7 @@ import sys
 
 import charger
 from charger import (
-    Avs, Battery, Fixed, Header, Message, Objects, Pps, Profile, Row, SinkFixed, SinkPps, Variable, Words,
+    Avs, Battery, Fixed, ForTheList, Header, Message, Objects, Pps, Profile, Row, SinkFixed, SinkPps, Variable, Words,
 )
 
 # "more than 512 bytes": the newline is not part of the line.
@@ -162,6 +162,11 @@ def said_objects(answer):
     return said(answer, answer.value.count, *told)
 
 
+def said_summary(answer):
+    """Its count, and then the four limits of each of the seven places."""
+    return said(answer, answer.value.count, *[limit for row in answer.value.rows for limit in row])
+
+
 def said_profile(answer):
     return said(answer, *answer.value)
 
@@ -190,6 +195,22 @@ def write_message_into(header, room, words):
     return answer._replace(value=(answer.value, buffer))
 
 
+def quick(words, request):
+    """What `answer` does, by way of the summary: "it makes the summary of the list,
+    decodes the request for the object at its position, and answers from these two. A
+    request to a battery object goes to the list."
+    """
+    summary = charger.make_summary(words)
+    if summary.number:
+        return summary
+    asked = charger.decode_request(words, request)
+    if asked.number:
+        return asked
+    if isinstance(asked.value, ForTheList):
+        return charger.answer(words, request)
+    return charger.answer_from_summary(summary.value, asked.value)
+
+
 # word: what its fields are, the call, what is said of its answer
 STATELESS_CALLS = {
     "default": ((Fields.short,), charger.default_profile, said_profile),
@@ -199,6 +220,8 @@ STATELESS_CALLS = {
     "read": ((Fields.words,), charger.read, said_objects),
     "write": ((Fields.objects,), charger.write, said_words),
     "answer": ((Fields.words, Fields.word), charger.answer, said_nothing_more),
+    "summary": ((Fields.words,), charger.make_summary, said_summary),
+    "quick": ((Fields.words, Fields.word), quick, said_nothing_more),
     "sinkshape": ((Fields.words,), charger.sink_shape, said_nothing_more),
     "sinkread": ((Fields.words,), charger.sink_read, said_objects),
     "sinkwrite": ((Fields.sink_objects,), charger.sink_write, said_words),

@@ -38,6 +38,11 @@ from charger.requests import (
     request_position, is_mismatch, operating_figure, maximum_figure, requested_voltage, requested_current,
     judge_figures, judge_pps, avs_limit, judge_avs, granted, answer,
 )
+from charger.summaries import (
+    Limits, Summary, NO_LIMITS, NO_SUMMARY, AskedFigures, AskedVoltage, ForTheList, KINDS_WITH_FIGURES,
+    MILLIVOLTS_OF_A_STEP, limits_of, summary_of, limit_at, judge_asked_voltage, judge_asked_figures, make_summary,
+    decode_request, answer_from_summary,
+)
 from charger.sinks import (
     SinkFixed, SinkPps, SINK, NO_SINK_OBJECT, VOLTS_OF_PPS_RANGE, list_of_sink_objects, NO_SINK_OBJECTS, sink_shaped,
     operating_figure_of, ceiling, is_above_ceiling, sink_shape, sink_read, sink_write, sink_check,
