@@ -6,13 +6,14 @@ The seed is fixed: the same files come out each time. Each file of inputs/ makes
 one kind of line; unreadable lines are strewn over all of them. At the end the
 lines are counted by refusal number. A number of the statement's table that was given
 fewer than 20 times fails the run, and so does one that the table does not have. The
-numbers of messages and of sink lists are counted for each call that gives them.
+numbers of messages, of sink lists and of summaries are counted for each call that gives
+them.
 """
 
 import sys
 from collections import Counter
 
-from inputs import cables, messages, ports, ratings, requests, rules, shapes, sinks
+from inputs import cables, messages, ports, ratings, requests, rules, shapes, sinks, summaries
 from inputs.book import book
 from inputs.unreadable import STRANGE_LINES
 
@@ -20,6 +21,8 @@ FEWEST = 20
 # Those of the statement's table: 21 is withdrawn.
 NUMBERS = [*range(1, 8), *range(10, 21), *range(22, 26), *range(30, 38), *range(40, 44), *range(51, 54)]
 NUMBERS_OF_CALLS = {
+    "summary": (10, 11, 12, 13, 15, 16, 14, 17),
+    "quick": (10, 11, 12, 13, 15, 16, 14, 17, 20, 23, 22, 24, 25),
     "readmsg": (40, 42, 41, 53),
     "takemsg": (40, 42, 41, 53),
     "writemsg": (51, 42, 41, 53, 52),
@@ -75,6 +78,7 @@ def all_lines():
     sinks.sink_lines()
     ratings.rating_lines()
     cables.cable_lines()
+    summaries.summary_lines()
     # the end of the input in the middle of a line: this line has no newline
     book.put("build 72 72 300 0 1 0")
 
