@@ -48,6 +48,21 @@ EXAMPLES_OF_CABLES = (
 )
 
 
+LIST_L = "5 0001912C 0002D12C 0004B12C 00064145 E004B145 00000000 00000000"
+WITH_BATTERY = "3 0A01912C 5A4190C8 99019096" + ZEROS[18:]
+EXAMPLES_OF_SUMMARIES = (
+    ("summary " + LIST_L,
+     "0 0 5 5000 5000 3000 3000 9000 9000 3000 3000 15000 15000 3000 3000 20000 20000 3250 3250 9000 20000 3000 3250"
+     " 0 0 0 0 0 0 0 0"),
+    ("summary " + WITH_BATTERY, "0 0 3 5000 5000 3000 3000 5000 21000 0 0 5000 20000 1500 1500" + " 0" * 16),
+    ("summary 1 0002D12C" + ZEROS, "11 1 0" + " 0" * 28),
+    ("quick " + LIST_L + " 5004B041", "0 0"),
+    ("quick " + LIST_L + " 5004B042", "24 0"),
+    ("quick " + WITH_BATTERY + " 200320C8", "0 0"),
+    ("quick " + WITH_BATTERY + " 40000000", "20 0"),
+)
+
+
 EXAMPLES_OF_SINKS = (
     ("sinkshape 2 1201912C C0DC323C" + ZEROS[9:], "0 0"),
     ("sinkshape 2 1201912C C8DC323C" + ZEROS[9:], "13 2"),
@@ -133,6 +148,35 @@ def test_lines_of_messages():
         "writemsg 0 1 1 0 2 0 2 40051545" + ZEROS, "writemsg 0 256 1 0 2 0 2 8 40051545" + ZEROS,
         "writemsg 0 1 1 0 2 0 256 8 40051545" + ZEROS, "writemsg 0 1 1 0 2 0 2 - 40051545" + ZEROS,
         "writemsg 0 1 1 0 2 0 2 256 40051545" + ZEROS, "writemsg 0 1 1 0 2 0 2 8 4005154" + ZEROS,
+    ):
+        expect(line, served(line.encode()), b"?\n")
+
+
+def test_lines_of_summaries():
+    for line, answer in EXAMPLES_OF_SUMMARIES:
+        expect(line, served(line.encode()).decode(), answer + "\n")
+    for line, answer in (
+        ("summary 000" + ZEROS + " 00000000", "10 0 0" + " 0" * 28),
+        ("summary 255 0001912C" + ZEROS, "10 0 0" + " 0" * 28),
+        ("summary 02 0001912c D0000000" + ZEROS[9:], "12 2 0" + " 0" * 28),
+        ("summary 1 0001912C" + " FFFFFFFF" * 6, "0 0 1 5000 5000 3000 3000" + " 0" * 24),
+        ("quick 0 0001912C" + ZEROS + " 1004B12C", "10 0"),
+        ("quick 1 0002D12C" + ZEROS + " 20000000", "11 1"),
+        ("quick 2 0001912C D0000000" + ZEROS[9:] + " 20000000", "12 2"),
+        ("quick 01 0001912c" + " ffffffff" * 6 + " 1004b12c", "0 0"),
+        ("quick 1 0001912C" + ZEROS + " 1004B12D", "25 0"),
+        ("quick 1 0001912C" + ZEROS + " 1404B12D", "0 0"),
+        ("quick " + LIST_L + " 5004B241", "23 0"),
+        ("quick " + LIST_L + " 5002C800", "22 0"),
+        ("quick " + WITH_BATTERY + " 200324C8", "24 0"),
+    ):
+        expect(line, served(line.encode()).decode(), answer + "\n")
+    for line in (
+        "summary", "quick", "summary 1" + ZEROS, "summary 1 0001912C 00000000" + ZEROS, "summary 256 0001912C" + ZEROS,
+        "summary 1 001912C" + ZEROS, "SUMMARY 1 0001912C" + ZEROS, "summary  1 0001912C" + ZEROS,
+        "summary " + LIST_L + " ", "quick " + LIST_L, "quick " + LIST_L + " 5004B041 0", "quick " + LIST_L + " 5004B04",
+        "Quick " + LIST_L + " 5004B041", "quick 256 0001912C" + ZEROS + " 1004B12C", "quick " + LIST_L + "  5004B041",
+        "quick 5004B041 " + LIST_L,
     ):
         expect(line, served(line.encode()), b"?\n")
 
