@@ -322,7 +322,7 @@ def test_any_numbers():
         else:
             step = 20 if kind is Pps else 25
             edges = [edge // step + more for edge in (15_000, row.lowest, row.highest) for more in (0, 1, 4)]
-            edges += [rng.randrange(800) * 4, 15_000 // step]
+            edges += [rng.randrange(800) * 4, 15_000 // step, 15_000 // step - 1]
             current = [limit // 50 + more for limit in (row.below, row.above) for more in (0, 1)]
             asked = AskedVoltage(kind, position, bit_26, number(*edges, *edges), number(0, *current))
         summary = Summary(count, tuple(rows))
@@ -373,6 +373,10 @@ def test_made_up_by_hand():
             expect("all of it", answered(widest, asked(millivolts, 1310)), (0, 0))
         expect("no number is cut", answered(widest, AskedVoltage(kind, 1, 0, 65532, 0)), (22, 0))
         expect("nor a current", answered(widest, asked(15000, 1311)), (24, 0))
+    for figure, falling, rising in ((749, 60, 40), (750, 60, 60), (751, 40, 60)):
+        for a_row, most in ((row, falling), (row._replace(below=2000, above=3000), rising)):
+            expect("PPS a step beside 15.0 V", answered(a_row, AskedVoltage(Pps, 1, 0, figure, most)), (0, 0))
+            expect("a step more", answered(a_row, AskedVoltage(Pps, 1, 0, figure, most + 1)), (24, 0))
     for figure in (1, 2, 3, 357, 599, 602, 801, 4095, 65535):
         expect("23 before 22 and 24", answered(none, AskedVoltage(Avs, 1, 0, figure, 127)), (23, 0))
         expect("no 23 of PPS", answered(none, AskedVoltage(Pps, 1, 0, figure, 127)), (22, 0))
