@@ -13,6 +13,7 @@ mod requests;
 mod rules;
 mod sinks;
 mod steps;
+mod summaries;
 #[cfg(test)]
 mod tests;
 mod words;
@@ -29,6 +30,10 @@ pub use sinks::{
     sink_write,
 };
 pub use steps::{convert, round_both, round_down, round_up};
+pub use summaries::{
+    answer_summary, flat_answer_summary, flat_take_request, flatten_request, raise_request,
+    summarize, take_request,
+};
 pub use words::{decode, encode, reserved_bit_set};
 
 #[derive(Clone, Copy, Debug, PartialEq, Eq, Default)]
@@ -188,6 +193,68 @@ pub struct Asked {
     pub position: u8,
     pub mismatch: bool,
     pub request: Request,
+}
+
+/// What a list allows. A row is "the *lowest* and the *highest* voltage in millivolts, and the
+/// greatest current in milliamperes *below 15.0 V* and *above 15.0 V*", in this order.
+#[derive(Clone, Copy, Debug, PartialEq, Eq, Default)]
+#[repr(C)]
+pub struct Summary {
+    pub count: u8,
+    pub rows: [[u16; 4]; 7],
+}
+
+#[derive(Clone, Copy, Debug, PartialEq, Eq, Default)]
+#[repr(C)]
+pub struct Summarized {
+    pub verdict: Verdict,
+    pub summary: Summary,
+}
+
+/// Fixed and variable in 10 mA, volts in 20 mV for PPS and in 25 mV for AVS, their current in 50 mA.
+/// "There is none for a battery object".
+#[derive(Clone, Copy, Debug, PartialEq, Eq)]
+pub enum Figures {
+    Fixed { operating: u16, maximum: u16 },
+    Variable { operating: u16, maximum: u16 },
+    Pps { volts: u16, current: u16 },
+    Avs { volts: u16, current: u16 },
+}
+
+#[derive(Clone, Copy, Debug, PartialEq, Eq)]
+pub struct DecodedRequest {
+    pub position: u8,
+    pub mismatch: bool,
+    pub figures: Figures,
+}
+
+/// What decoding answers. "Of a battery object it answers that the request is for the list."
+#[derive(Clone, Copy, Debug, PartialEq, Eq)]
+pub enum Taken {
+    Refused(Verdict),
+    Battery,
+    Decoded(DecodedRequest),
+}
+
+/// One struct for all kinds, as C has it. kind: 0 fixed, 1 battery, 2 variable, 3 PPS, 4 AVS.
+#[derive(Clone, Copy, Debug, PartialEq, Eq, Default)]
+#[repr(C)]
+pub struct FlatRequest {
+    pub kind: u8,
+    pub position: u8,
+    pub mismatch: u8,
+    pub operating: u16,
+    pub maximum: u16,
+    pub volts20: u16,
+    pub volts25: u16,
+    pub current50: u16,
+}
+
+#[derive(Clone, Copy, Debug, PartialEq, Eq, Default)]
+#[repr(C)]
+pub struct FlatTaken {
+    pub verdict: Verdict,
+    pub request: FlatRequest,
 }
 
 /// The fields of a message's header, from its highest bit down.

@@ -17,25 +17,25 @@ pub fn position(word: u32) -> u8 {
     (word >> 28) as u8
 }
 
-fn mismatch(word: u32) -> bool {
+pub fn mismatch(word: u32) -> bool {
     word >> 26 & 1 == 1
 }
 
-fn operating(word: u32) -> u16 {
+pub fn operating(word: u32) -> u16 {
     (word >> 10 & 0x3FF) as u16
 }
 
-fn maximum(word: u32) -> u16 {
+pub fn maximum(word: u32) -> u16 {
     (word & 0x3FF) as u16
 }
 
 /// In 20 mV for PPS, in 25 mV for AVS.
-fn volts(word: u32) -> u16 {
+pub fn volts(word: u32) -> u16 {
     (word >> 9 & 0xFFF) as u16
 }
 
 /// In 50 mA.
-fn current(word: u32) -> u16 {
+pub fn current(word: u32) -> u16 {
     (word & 0x7F) as u16
 }
 

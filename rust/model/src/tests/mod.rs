@@ -6,6 +6,7 @@ mod messages;
 mod refusals;
 mod reserved;
 mod sinks;
+mod summaries;
 
 use crate::*;
 
