@@ -3,8 +3,8 @@
 #![no_std]
 
 use model::{
-    FlatObjects, FlatReading, Listing, Message, MessageReading, Profile, Profiled, RemainingPower,
-    Row, Verdict, Words, Written,
+    FlatObjects, FlatReading, FlatRequest, FlatTaken, Listing, Message, MessageReading, Profile,
+    Profiled, RemainingPower, Row, Summarized, Summary, Verdict, Words, Written,
 };
 
 /// As the library has it: a count of zero is no row and no byte, whatever the pointer.
@@ -62,6 +62,21 @@ pub extern "C" fn model_write(list: &FlatObjects) -> Listing {
 #[no_mangle]
 pub extern "C" fn model_answer(list: &Words, word: u32) -> Verdict {
     model::answer(list, word)
+}
+
+#[no_mangle]
+pub extern "C" fn model_summarize(list: &Words) -> Summarized {
+    model::summarize(list)
+}
+
+#[no_mangle]
+pub extern "C" fn model_take_request(list: &Words, word: u32) -> FlatTaken {
+    model::flat_take_request(list, word)
+}
+
+#[no_mangle]
+pub extern "C" fn model_answer_summary(summary: &Summary, request: &FlatRequest) -> Verdict {
+    model::flat_answer_summary(summary, request)
 }
 
 #[no_mangle]
