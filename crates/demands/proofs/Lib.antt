@@ -2,6 +2,7 @@ pub mod Refusals
 pub mod EnumRefusals
 pub mod FlatRefusals
 pub mod SinkRefusals
+pub mod SummaryRefusals
 pub mod SharingRefusals
 pub mod DecidingRefusals
 pub mod MessageRefusals
@@ -23,6 +24,8 @@ pub mod RequestNumbers
 pub mod Ignored
 pub mod At15V
 pub mod MarkedCases
+pub mod Summaries
+pub mod SummaryUnread
 pub mod SinkRoundTrips
 pub mod SinkUnread
 pub mod Ceilings
@@ -35,6 +38,7 @@ pub mod DueAnswers
 pub mod OneOutcome
 pub mod FlatOutcomes
 pub mod SinkOutcomes
+pub mod SummaryOutcomes
 pub mod MessageOutcomes
 pub mod RightLibrary
 pub mod NoCurrent

@@ -42,6 +42,11 @@ use Rattle.messages.proofs.Writings.{writing-numbered}
 use Rattle.sinks.specs.SinkLists.{sinkShapeRefusals, sinkEncodedAt, sinkWriteRefusals}
 use Rattle.sinks.specs.Rating.{sinkCheckRefusals}
 use Rattle.sinks.proofs.Checks.{sink-check-numbered}
+use Rattle.summaries.specs.Taking.{decodingRefusals, takenVerdict}
+use Rattle.summaries.specs.Answering.{summaryRefusals}
+use Rattle.summaries.proofs.Answers.{summary-numbered}
+use Rattle.flat.specs.Requesting.{flatAnswerRefusals}
+use Rattle.flat.proofs.Requests.{flat-numbered}
 use Rattle.flat.specs.declared.FlatObjects.{FlatObjects}
 use Rattle.flat.specs.declared.FlatReading.{FlatReading}
 use Rattle.flat.specs.Writing.{encodedFlatAt, flatWriteRefusals}
@@ -54,6 +59,7 @@ use Rattle.demands.specs.Withdrawn.{Not21, Never21}
 use Rattle.demands.proofs.Refusals.{shape-for-refusals, readable-refusals, finished-refusals, read-refusals, write-refusals, default-refusals, build-refusals, check-refusals, answer-refusals, judge-refusals}
 use Rattle.demands.proofs.EnumRefusals.{decode-12, decode-for-12, encode-7, fixed-word-7, pps-word-7, avs-word-7, word-at-20, raise-12}
 use Rattle.demands.proofs.FlatRefusals.{flat-read-for-refusals, flat-write-for-refusals}
+use Rattle.demands.proofs.SummaryRefusals.{summarize-refusals, decoding-numbered, take-request-refusals, answer-summary-refusals, flat-take-request-refusals, flat-answer-summary-refusals, arin-summarize-refusals, arin-take-request-refusals, arin-answer-summary-refusals}
 use Rattle.demands.proofs.SinkRefusals.{sink-decode-12, sink-encode-7, sink-read-refusals, sink-write-refusals, sink-check-refusals, arin-sink-check-refusals}
 use Rattle.demands.proofs.MessageRefusals.{take-message-refusals, read-message-refusals, write-message-refusals, arin-take-message-refusals, arin-read-message-refusals, arin-write-message-refusals}
 use Rattle.demands.proofs.SharingRefusals.{set-up-refusals, attach-refusals, advertise-refusals, request-refusals, detach-refusals, remaining-refusals}
@@ -139,6 +145,9 @@ never-21 = record {
   check = λ p l r e. not-numbered r (checkRefusals p l) (check-refusals p l r e) (check-numbered p l);
   judge = λ o w r e. not-numbered r (refusalsOf o w) (judge-refusals o w r e) (judged-numbered o w);
   answer = λ l w r e. not-numbered r (answerRefusals l w) (answer-refusals l w r e) (answer-numbered l w);
+  summarize = λ l r e. not-numbered (r .verdict) (shapeRefusals l) (summarize-refusals l r e .0) (shape-numbered Source l);
+  take-request = λ l w r e. not-numbered (takenVerdict r) (decodingRefusals l w) (take-request-refusals l w r e) (decoding-numbered l w);
+  answer-summary = λ s a r e. not-numbered r (summaryRefusals s a) (answer-summary-refusals s a r e) (summary-numbered s a);
   sink-decode = λ w r e. not-one (λ z. absurd (omega (arith, z))) (sink-decode-12 w r e);
   sink-encode = λ o r e. not-one (λ z. absurd (omega (arith, z))) (sink-encode-7 o r e);
   sink-shape = λ l r e. shape-for-21 Sink l r e;
@@ -177,6 +186,8 @@ never-21 = record {
   flat-read = λ l r e. flat-read-for-21 Source l r e;
   flat-write-for = flat-write-for-21;
   flat-write = λ f r e. flat-write-for-21 Source f r e;
+  flat-take-request = λ l w r e. not-numbered (r .verdict) (decodingRefusals l w) (flat-take-request-refusals l w r e .0) (decoding-numbered l w);
+  flat-answer-summary = λ s x r e. not-numbered r (flatAnswerRefusals s x) (flat-answer-summary-refusals s x r e) (flat-numbered s x);
   arin-default-profile = λ m r e. not-numbered (r .verdict) (defaultRefusals (halfWatts m)) (default-refusals (halfWatts m) r e .0) refl;
   arin-build = λ p r e. not-numbered (r .verdict) (buildRefusals p) (build-refusals p r e .0) (build-numbered p);
   arin-check = λ p l r e. not-numbered r (checkRefusals p l) (check-refusals p l r e) (check-numbered p l);
@@ -184,6 +195,9 @@ never-21 = record {
   arin-read = λ l r e. flat-read-for-21 Source l r e;
   arin-write = λ f r e. flat-write-for-21 Source f r e;
   arin-answer = λ l w r e. not-numbered r (answerRefusals l w) (answer-refusals l w r e) (answer-numbered l w);
+  arin-summarize = λ l r e. not-numbered (r .verdict) (shapeRefusals l) (arin-summarize-refusals l r e .0) (shape-numbered Source l);
+  arin-take-request = λ l w r e. not-numbered (r .verdict) (decodingRefusals l w) (arin-take-request-refusals l w r e .0) (decoding-numbered l w);
+  arin-answer-summary = λ s x r e. not-numbered r (flatAnswerRefusals s x) (arin-answer-summary-refusals s x r e) (flat-numbered s x);
   arin-sink-shape = λ l r e. shape-for-21 Sink l r e;
   arin-sink-read = λ l r e. flat-read-for-21 Sink l r e;
   arin-sink-write = λ f r e. flat-write-for-21 Sink f r e;

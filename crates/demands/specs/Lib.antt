@@ -6,11 +6,13 @@
 pub mod CallContracts
 pub mod FlatContracts
 pub mod SinkContracts
+pub mod SummaryContracts
 -- Demand 1, refusals: the first refusal that applies is given, with its place, and nothing else with it
 pub mod Refusals
 pub mod EnumRefusals
 pub mod FlatRefusals
 pub mod SinkRefusals
+pub mod SummaryRefusals
 pub mod SharingRefusals
 pub mod DecidingRefusals
 pub mod MessageRefusals
@@ -33,6 +35,9 @@ pub mod RequestNumbers
 pub mod Ignored
 pub mod At15V
 pub mod MarkedCases
+-- Summaries (T-06): what they say, and that the answer from one is the answer from its list
+pub mod Summaries
+pub mod SummaryUnread
 -- Sink lists (T-04): what is read writes back, and a rating is kept in milliwatts
 pub mod SinkRoundTrips
 pub mod SinkUnread
@@ -49,6 +54,7 @@ pub mod DueAnswers
 pub mod OneOutcome
 pub mod FlatOutcomes
 pub mod SinkOutcomes
+pub mod SummaryOutcomes
 pub mod MessageOutcomes
 pub mod Libraries
 pub mod WrongLibraries

@@ -44,6 +44,13 @@ use Rattle.flat.specs.Flat.{raisedSays}
 use Rattle.messages.specs.declared.Message.{Message}
 use Rattle.messages.specs.declared.MessageReading.{MessageReading}
 use Rattle.messages.specs.declared.Written.{Written}
+use Rattle.summaries.specs.declared.Summary.{Summary}
+use Rattle.summaries.specs.declared.Summarized.{Summarized}
+use Rattle.summaries.specs.declared.QuickAsked.{QuickAsked}
+use Rattle.summaries.specs.declared.TakenRequest.{TakenRequest}
+use Rattle.summaries.specs.Taking.{takenVerdict}
+use Rattle.flat.specs.declared.FlatRequest.{FlatRequest}
+use Rattle.flat.specs.declared.FlatTaken.{FlatTaken}
 use Rattle.messages.specs.Promises.{TakesMessage, ReadsMessage, WritesMessage}
 use Rattle.board.specs.MessagePromises.{ArinTakesMessage, ArinReadsMessage, ArinWritesMessage}
 use Rattle.board.specs.Promises.{SharesSetUp, SharesAttach, SharesAdvertise, SharesRequest, SharesDetach, SharesRemaining}
@@ -52,6 +59,7 @@ use Rattle.demands.specs.CallContracts.{ShapeAnswers, ReadAnswers, Refus
 use Rattle.demands.specs.CallContracts.{DefaultAnswers, BuildAnswers, CheckAnswers, WordAtAnswers}
 use Rattle.demands.specs.CallContracts.{AnswerAnswers, JudgeAnswers}
 use Rattle.demands.specs.CallContracts.{BeginAnswers, TakeRowAnswers, AttachDecides, AdvertiseDecides, OfferAnswers, RequestDecides, DetachDecides, RemainingDecides}
+use Rattle.demands.specs.SummaryContracts.{SummarizeAnswers, TakeRequestAnswers, AnswerSummaryAnswers, FlatTakeRequestAnswers, FlatAnswerSummaryAnswers, ArinSummarizeAnswers, ArinTakeRequestAnswers, ArinAnswerSummaryAnswers}
 use Rattle.demands.specs.SinkContracts.{SinkDecodeAnswers, SinkEncodeAnswers, SinkShapeAnswers, SinkReadAnswers, SinkWriteAnswers, SinkCheckAnswers, ArinSinkShapeAnswers, ArinSinkReadAnswers, ArinSinkWriteAnswers, ArinSinkCheckAnswers}
 use Rattle.demands.specs.FlatContracts.{FlatReadForAnswers, FlatWriteForAnswers, RaiseAnswers, FlatReadAnswers, FlatWriteAnswers}
 use Rattle.demands.specs.FlatContracts.{ArinDefaultAnswers, ArinBuildAnswers, ArinCheckAnswers, ArinShapeAnswers, ArinReadAnswers, ArinWriteAnswers, ArinAnswerAnswers}
@@ -83,6 +91,10 @@ pub record Never21 : Type 0 where
   -- requests
   pub judge : (o : Object) (w : ℕ) (r : Verdict) → JudgeAnswers o w r → Not21 (r .number)
   pub answer : (l : Words) (w : ℕ) (r : Verdict) → AnswerAnswers l w r → Not21 (r .number)
+  -- summaries
+  pub summarize : (l : Words) (r : Summarized) → SummarizeAnswers l r → Not21 (r .verdict .number)
+  pub take-request : (l : Words) (w : ℕ) (r : TakenRequest) → TakeRequestAnswers l w r → Not21 (takenVerdict r .number)
+  pub answer-summary : (s : Summary) (a : QuickAsked) (r : Verdict) → AnswerSummaryAnswers s a r → Not21 (r .number)
   -- sinks
   pub sink-decode : (w : ℕ) (r : SinkDecoded) → SinkDecodeAnswers w r → Not21 (sinkDecodedSays r .0)
   pub sink-encode : (o : SinkObject) (r : Encoded) → SinkEncodeAnswers o r → Not21 (encodedSays r .0)
@@ -115,6 +127,8 @@ pub record Never21 : Type 0 where
   pub flat-read : (l : Words) (r : FlatReading) → FlatReadAnswers l r → Not21 (r .verdict .number)
   pub flat-write-for : (side : Side) (f : FlatObjects) (r : Listing) → FlatWriteForAnswers side f r → Not21 (r .verdict .number)
   pub flat-write : (f : FlatObjects) (r : Listing) → FlatWriteAnswers f r → Not21 (r .verdict .number)
+  pub flat-take-request : (l : Words) (w : ℕ) (r : FlatTaken) → FlatTakeRequestAnswers l w r → Not21 (r .verdict .number)
+  pub flat-answer-summary : (s : Summary) (x : FlatRequest) (r : Verdict) → FlatAnswerSummaryAnswers s x r → Not21 (r .number)
   -- board, lists and requests
   pub arin-default-profile : (m : ℕ) (r : Profiled) → ArinDefaultAnswers m r → Not21 (r .verdict .number)
   pub arin-build : (p : Profile) (r : Listing) → ArinBuildAnswers p r → Not21 (r .verdict .number)
@@ -123,6 +137,10 @@ pub record Never21 : Type 0 where
   pub arin-read : (l : Words) (r : FlatReading) → ArinReadAnswers l r → Not21 (r .verdict .number)
   pub arin-write : (f : FlatObjects) (r : Listing) → ArinWriteAnswers f r → Not21 (r .verdict .number)
   pub arin-answer : (l : Words) (w : ℕ) (r : Verdict) → ArinAnswerAnswers l w r → Not21 (r .number)
+  -- board, summaries
+  pub arin-summarize : (l : Words) (r : Summarized) → ArinSummarizeAnswers l r → Not21 (r .verdict .number)
+  pub arin-take-request : (l : Words) (w : ℕ) (r : FlatTaken) → ArinTakeRequestAnswers l w r → Not21 (r .verdict .number)
+  pub arin-answer-summary : (s : Summary) (x : FlatRequest) (r : Verdict) → ArinAnswerSummaryAnswers s x r → Not21 (r .number)
   -- board, sinks
   pub arin-sink-shape : (l : Words) (r : Verdict) → ArinSinkShapeAnswers l r → Not21 (r .number)
   pub arin-sink-read : (l : Words) (r : FlatReading) → ArinSinkReadAnswers l r → Not21 (r .verdict .number)

@@ -1,20 +1,29 @@
 -- Decoded requests as C has them: which kind numbers have one, and the answer by way of it.
 -- Assumes nothing.
-use mathlib.Core.Path.{_≡_, refl, sym, ap, _∙_}
-use mathlib.Core.Bool.{Bool, true, false}
+use mathlib.Core.Path.{_≡_, refl, sym, ap, ap₂, _∙_}
+use mathlib.Core.Bool.{Bool, true, false, not}
 use mathlib.Core.List.{List, _∷_}
 use Prim.Native.Nat.{ℕ, zero, suc}
+use lib.Dec.{ltb, eqb}
 use native.Mathlib.Omega.{arith}
 use borrow.Author.Tests.{ne-eqb}
 use Rattle.verdicts.specs.Refusals.{Refusal, refusal, verdict, success, verdictOf}
 use Rattle.verdicts.proofs.First.{numbered, hit, miss}
+use Rattle.lists.specs.declared.Words.{Words}
 use Rattle.summaries.specs.declared.Summary.{Summary}
+use Rattle.summaries.specs.declared.QuickRequest.{QuickRequest}
+use Rattle.summaries.specs.declared.QuickRequest.the-variants.{Fixed, Variable, Pps, Avs}
 use Rattle.summaries.specs.declared.QuickAsked.{QuickAsked}
-use Rattle.summaries.specs.Answering.{summaryRefusals, answeredBy}
+use Rattle.summaries.specs.declared.TakenRequest.{TakenRequest}
+use Rattle.summaries.specs.declared.TakenRequest.the-variants.{Refused, Battery, Quick}
+use Rattle.summaries.specs.Taking.{takenVerdict, takenOf}
+use Rattle.requests.specs.Answering.{badPosition}
+use Rattle.summaries.specs.Answering.{rowRefusals, rowOf, summaryRefusals, answeredBy}
 use Rattle.flat.specs.declared.FlatRequest.{FlatRequest}
+use Rattle.flat.specs.declared.FlatTaken.{FlatTaken}
 use Rattle.flat.specs.declared.requesting.RaisedRequest.{RaisedRequest}
 use Rattle.flat.specs.declared.requesting.RaisedRequest.the-variants.{Known, Unknown}
-use Rattle.flat.specs.Requesting.{raisedRequestBy, raisedRequestOf, askedOf, hasNone, flatAnswerRefusals, flatAnsweredOf}
+use Rattle.flat.specs.Requesting.{bitOf, flatRequestBy, flatRequestOf, flatTakenBy, flatTakenOf, raisedRequestBy, raisedRequestOf, askedOf, hasNone, flatAnswerRefusals, flatAnsweredOf}
 
 -- whether an answer is a decoded request
 abbrev isUnknown : RaisedRequest → Bool
@@ -70,3 +79,66 @@ module _ (s : Summary) (x : FlatRequest) where
   by-decoded-request a e =
       miss verdict success 12 0 _ (told x ∙ ap isUnknown e)
       ∙ ap (λ (r : RaisedRequest). verdictOf (summaryRefusals s (askedOf r x))) e
+
+-- ---- out and in again
+
+bit-again : (m : Bool) → not (eqb (bitOf m) 0) ≡ m
+bit-again true = refl
+bit-again false = refl
+
+raised-again : (p : ℕ) (m : Bool) (r : QuickRequest)
+    → raisedRequestOf (flatRequestBy p (bitOf m) r) ≡ Known (record { position = p; mismatch = not (eqb (bitOf m) 0); request = r })
+unfolding raisedRequestOf
+raised-again p m (Fixed o x) = refl
+raised-again p m (Variable o x) = refl
+raised-again p m (Pps v a) = refl
+raised-again p m (Avs v a) = refl
+
+-- a decoded request that was made flat is taken in as it was
+pub request-again : (a : QuickAsked) → raisedRequestOf (flatRequestOf a) ≡ Known a
+unfolding flatRequestOf
+request-again a =
+    raised-again (a .position) (a .mismatch) (a .request)
+    ∙ ap (λ (m : Bool). Known (record { position = a .position; mismatch = m; request = a .request })) (bit-again (a .mismatch))
+
+-- what decoding gives to C, by what it gives
+module _ (l : Words) (w : ℕ) where
+  pub flat-taken : flatTakenOf l w ≡ flatTakenBy (takenOf l w)
+  unfolding flatTakenOf
+  flat-taken = refl
+
+  verdict-by : (t : TakenRequest) → flatTakenBy t .verdict ≡ takenVerdict t
+  verdict-by (Refused v) = refl
+  verdict-by (Battery p m) = refl
+  verdict-by (Quick a) = refl
+
+  pub flat-taken-verdict : flatTakenOf l w .verdict ≡ takenVerdict (takenOf l w)
+  flat-taken-verdict = ap (λ (t : FlatTaken). t .verdict) flat-taken ∙ verdict-by (takenOf l w)
+
+-- ---- what is not looked at
+
+pub flat-taken-by-one : (l m : Words) (w : ℕ) → takenOf l w ≡ takenOf m w → flatTakenOf l w ≡ flatTakenOf m w
+flat-taken-by-one l m w e = flat-taken l w ∙ ap flatTakenBy e ∙ sym (flat-taken m w)
+
+-- the position is that of the struct, whatever the kind
+position-by : (k : ℕ) (x : FlatRequest) → askedOf (raisedRequestBy k x) x .position ≡ x .position
+position-by zero x = refl
+position-by (suc zero) x = refl
+position-by (suc (suc zero)) x = refl
+position-by (suc (suc (suc zero))) x = refl
+position-by (suc (suc (suc (suc zero)))) x = refl
+position-by (suc (suc (suc (suc (suc k))))) x = refl
+
+position-of : (x : FlatRequest) → askedOf (raisedRequestOf x) x .position ≡ x .position
+unfolding raisedRequestOf
+position-of x = position-by (x .kind) x
+
+pub flat-answered-by-one : (s t : Summary) (x : FlatRequest) → s .count ≡ t .count → rowOf s (x .position) ≡ rowOf t (x .position)
+    → flatAnsweredOf s x ≡ flatAnsweredOf t x
+unfolding flatAnsweredOf
+flat-answered-by-one s t x e f =
+    let a = askedOf (raisedRequestOf x) x in
+    ap₂ (λ (n : ℕ) (ls : List ℕ). verdictOf (refusal (hasNone (x .kind)) 12 0
+    ∷ refusal (ltb 7 n) 10 0
+    ∷ refusal (badPosition n (a .position)) 20 0
+    ∷ rowRefusals ls (a .mismatch) (a .request))) e (ap (rowOf s) (position-of x) ∙ f ∙ sym (ap (rowOf t) (position-of x)))

@@ -60,7 +60,7 @@ flatRequestBy p b (Avs v a) = flatIn25mV 4 p b v a
 unfoldable pub flatRequestOf : QuickAsked → FlatRequest
 flatRequestOf a = flatRequestBy (a .position) (bitOf (a .mismatch)) (a .request)
 
--- "For a battery object the kind, the position and bit 26 are given back, and both figures are zero."
+-- "For a battery object nothing is refused: the kind, the position and bit 26 are given back, and all else is zero."
 abbrev pub flatBatteryOf : ℕ → Bool → FlatRequest
 flatBatteryOf p mismatch = flatCurrents 1 p (bitOf mismatch) noMa10 noMa10
 

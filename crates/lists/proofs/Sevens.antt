@@ -38,11 +38,11 @@ module _ {A : Type 0} (f : ℕ → A) (blank : A) where
   one-blank (suc (suc (suc (suc (suc (suc zero)))))) h e = rw e
   one-blank (suc (suc (suc (suc (suc (suc (suc i))))))) h e = absurd (omega arith)
 
-  -- what stands at a place that is filled
-  pub filled-at : (n k : ℕ) → n ≤ 7 → k < n → getD (sevenTo f blank n) k blank ≡ f k
+  -- what stands at a place that is filled, whatever would stand past the seven
+  pub at-filled : (other : A) (n k : ℕ) → n ≤ 7 → k < n → getD (sevenTo f blank n) k other ≡ f k
   unfolding sevenTo
-  filled-at n k h l = at k (omega arith) ∙ ap (λ b. cond b (f k) blank) (lt-ltb k n l) where
-    at : (k : ℕ) → k < 7 → getD (sevenTo f blank n) k blank ≡ placeTo f blank n k
+  at-filled other n k h l = at k (omega arith) ∙ ap (λ b. cond b (f k) blank) (lt-ltb k n l) where
+    at : (k : ℕ) → k < 7 → getD (sevenTo f blank n) k other ≡ placeTo f blank n k
     at zero h = refl
     at (suc zero) h = refl
     at (suc (suc zero)) h = refl
@@ -51,6 +51,9 @@ module _ {A : Type 0} (f : ℕ → A) (blank : A) where
     at (suc (suc (suc (suc (suc zero))))) h = refl
     at (suc (suc (suc (suc (suc (suc zero)))))) h = refl
     at (suc (suc (suc (suc (suc (suc (suc i))))))) h = absurd (omega arith)
+
+  pub filled-at : (n k : ℕ) → n ≤ 7 → k < n → getD (sevenTo f blank n) k blank ≡ f k
+  filled-at = at-filled blank
 
   blank-at : (n k : ℕ) → n ≤ k → placeTo f blank n k ≡ blank
   blank-at n k h = ap (λ b. cond b (f k) blank) (le-ltb k n h)

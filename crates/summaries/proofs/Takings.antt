@@ -5,19 +5,32 @@ use mathlib.Core.Bool.{true, false}
 use Prim.Native.Nat.{ℕ}
 use lib.Dec.{eqb}
 use Rattle.objects.specs.declared.Object.{Object}
+use Rattle.objects.specs.declared.Object.the-variants.{Fixed, Battery, Variable, Pps, Avs}
 use Rattle.objects.specs.declared.Decoded.{Decoded}
 use Rattle.objects.specs.declared.Decoded.the-variants.{Known, NotAllowed}
 use Rattle.objects.specs.Decode.{decodedNumber}
-use Rattle.verdicts.specs.Refusals.{firstOf}
+use Rattle.verdicts.specs.Refusals.{firstOf, success}
 use Rattle.verdicts.proofs.First.{hit, miss}
 use Rattle.lists.specs.declared.Words.{Words}
 use Rattle.lists.specs.Shape.{badCount}
 use Rattle.lists.specs.Reading.{objectOf}
 use Rattle.requests.specs.Taking.{positionOf, takenApart}
 use Rattle.requests.specs.Answering.{badPosition, namedBy}
-use Rattle.summaries.specs.Taking.{quickOf, takenRefused, takenOf}
+use Rattle.summaries.specs.Taking.{quickOf, takenRefused, takenOf, takenVerdict}
+
+-- a decoded request, and that it is one for a battery, is no refusal
+quick-at : (o : Object) (w : ℕ) → takenVerdict (quickOf (takenApart o w)) ≡ success
+unfolding quickOf takenApart
+quick-at (Fixed f p v a) w = refl
+quick-at (Battery x m p) w = refl
+quick-at (Variable x m a) w = refl
+quick-at (Pps l x m a) w = refl
+quick-at (Avs p l h) w = refl
 
 module _ (l : Words) (w : ℕ) where
+  pub quick-succeeds : takenVerdict (quickOf (takenApart (objectOf (namedBy l w)) w)) ≡ success
+  quick-succeeds = quick-at (objectOf (namedBy l w)) w
+
   pub miscounted : badCount (l .count) ≡ true → takenOf l w ≡ takenRefused 10 0
   unfolding takenOf
   miscounted e = hit takenRefused _ 10 0 _ e

@@ -4,7 +4,8 @@ use mathlib.Core.Bool.{Bool}
 use mathlib.Core.List.{List, [], _∷_}
 use Prim.Native.Nat.{ℕ}
 use lib.Dec.{eqb}
-use Rattle.verdicts.specs.Refusals.{Refusal, refusal, firstOf, verdict}
+use Rattle.verdicts.specs.declared.Verdict.{Verdict}
+use Rattle.verdicts.specs.Refusals.{Refusal, refusal, firstOf, verdict, success}
 use Rattle.objects.specs.Decode.{decodedNumber}
 use Rattle.lists.specs.declared.Words.{Words}
 use Rattle.lists.specs.Shape.{badCount}
@@ -21,7 +22,7 @@ use Rattle.summaries.specs.declared.TakenRequest.{TakenRequest}
 use Rattle.summaries.specs.declared.TakenRequest.the-variants.{Refused, Battery, Quick}
 
 -- "It has the position, bit 26, and the two figures of a fixed or a variable request, or the voltage and the current of a PPS or an AVS
--- request, each in its step. There is none for a battery object"
+-- request, each in its step". "There is none for a battery object"
 abbrev pub quickWith : ℕ → Bool → QuickRequest → TakenRequest
 quickWith p m r = Quick (record { position = p; mismatch = m; request = r })
 
@@ -39,12 +40,30 @@ abbrev pub takenRefused : ℕ → ℕ → TakenRequest
 takenRefused n p = Refused (verdict n p)
 
 -- "10, 20, 12", the last at "the object or word at fault"
-abbrev pub takingRefusals : Words → ℕ → List Refusal
-takingRefusals l w =
+abbrev pub decodingRefusals : Words → ℕ → List Refusal
+decodingRefusals l w =
     refusal (badCount (l .count)) 10 0
     ∷ refusal (badPosition (l .count) (positionOf w)) 20 0
     ∷ refusal (eqb (decodedNumber (namedBy l w)) 12) 12 (positionOf w)
     ∷ []
 
 unfoldable pub takenOf : Words → ℕ → TakenRequest
-takenOf l w = firstOf takenRefused (takingRefusals l w) (quickOf (takenApart (objectOf (namedBy l w)) w))
+takenOf l w = firstOf takenRefused (decodingRefusals l w) (quickOf (takenApart (objectOf (namedBy l w)) w))
+
+-- What each answer says: its number and place. On a refusal nothing else is given.
+abbrev pub takenVerdict : TakenRequest → Verdict
+takenVerdict (Refused v) = v
+takenVerdict (Battery p m) = success
+takenVerdict (Quick a) = success
+
+-- ---- no contract cites these
+
+-- a decoded request as `requests` has it taken apart, where there is a battery too
+abbrev pub requestAs : QuickRequest → Request
+requestAs (quick.Fixed o x) = asked.Fixed o x
+requestAs (quick.Variable o x) = asked.Variable o x
+requestAs (quick.Pps v a) = asked.Pps v a
+requestAs (quick.Avs v a) = asked.Avs v a
+
+abbrev pub askedAs : QuickAsked → Asked
+askedAs a = record { position = a .position; mismatch = a .mismatch; request = requestAs (a .request) }
