@@ -1,7 +1,7 @@
 /*
  * Arinduleu: what a USB-C charger port advertises (SPR source capabilities with SPR AVS), the answers to the requests that come
- * back, the lists that a sink sends of what it needs, the messages that lists and requests travel in, and one supply shared by up
- * to eight ports.
+ * back, from the list or from a summary of it, the lists that a sink sends of what it needs, the messages that lists and requests
+ * travel in, and one supply shared by up to eight ports.
  *
  * The same header serves two libraries with the same calls. Link one of them:
  *   - libboard.a, which `rt staticlib board` writes to target/staticlib, for x86-64;
@@ -46,9 +46,9 @@
 
 /* The version of the header, and of the library that it came with. */
 #define ARIN_VERSION_MAJOR 0
-#define ARIN_VERSION_MINOR 6
+#define ARIN_VERSION_MINOR 7
 #define ARIN_VERSION_PATCH 0
-#define ARIN_VERSION "0.6.0"
+#define ARIN_VERSION "0.7.0"
 
 /*
  * Stands before every call: an answer that nobody looks at is a slip, and GCC and clang warn of it. Other compilers see nothing.
@@ -93,7 +93,7 @@ extern "C" {
 /* The most words in a list and in a message, the most rows in a call, and the most bytes of a message. */
 enum { ARIN_LIST_PLACES = 7, ARIN_MOST_ROWS = 8, ARIN_LONGEST_MESSAGE = 30 };
 
-/* The kinds of objects, for arin_flat_object. */
+/* The kinds of objects, for arin_flat_object and arin_flat_request. */
 enum arin_kind {
     ARIN_KIND_FIXED = 0,
     ARIN_KIND_BATTERY = 1,
@@ -270,6 +270,10 @@ ARIN_MUST_USE struct arin_listing arin_write(struct arin_flat_objects list);
  * Refusals: those of arin_shape, with their places; then 20, 23, 22, 24, 25.
  */
 ARIN_MUST_USE struct arin_verdict arin_answer(struct arin_words list, uint32_t word);
+
+/* ---- Summaries, and answers from them: arin_summarize, arin_take_request, arin_answer_summary ---- */
+
+#include "arinduleu_summaries.h"
 
 /* ---- Sink lists: what a sink needs. The message that they come in is none of those below: its words are handed in ---- */
 

@@ -9,7 +9,7 @@ help() {
 usage: tools/install.sh --prefix DIR [--library cargo|kit] [--target TRIPLE]
 
 Builds the static library and installs, under DIR:
-  include/arinduleu.h, and arinduleu_refusals.h and .inc, which it includes
+  include/arinduleu.h, and arinduleu_summaries.h, arinduleu_refusals.h and .inc, which it includes
   lib/libarinduleu.a
   lib/pkgconfig/arinduleu.pc             for `pkg-config --cflags --libs arinduleu`
   lib/cmake/arinduleu/                   for find_package(arinduleu) and the
@@ -143,6 +143,7 @@ put() {
 
 put include/arinduleu.h include/arinduleu.h
 put include/arinduleu_refusals.h include/arinduleu_refusals.h
+put include/arinduleu_summaries.h include/arinduleu_summaries.h
 put include/arinduleu_refusals.inc include/arinduleu_refusals.inc
 cp "$archive" "$to/lib/libarinduleu.a.new"
 mv -fT "$to/lib/libarinduleu.a.new" "$to/lib/libarinduleu.a"

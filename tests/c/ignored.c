@@ -5,10 +5,12 @@
 #include "arinduleu.h"
 
 void ignore_every_answer(struct arin_profile profile, struct arin_words list, struct arin_flat_objects objects,
-                         uint8_t *bytes, struct arin_message message, struct arin_row *rows);
+                         struct arin_summary summary, struct arin_flat_request request, uint8_t *bytes,
+                         struct arin_message message, struct arin_row *rows);
 
 void ignore_every_answer(struct arin_profile profile, struct arin_words list, struct arin_flat_objects objects,
-                         uint8_t *bytes, struct arin_message message, struct arin_row *rows)
+                         struct arin_summary summary, struct arin_flat_request request, uint8_t *bytes,
+                         struct arin_message message, struct arin_row *rows)
 {
     arin_refusal_text(0);
     arin_default_profile(72);
@@ -18,6 +20,9 @@ void ignore_every_answer(struct arin_profile profile, struct arin_words list, st
     arin_read(list);
     arin_write(objects);
     arin_answer(list, 0);
+    arin_summarize(list);
+    arin_take_request(list, 0);
+    arin_answer_summary(summary, request);
     arin_sink_shape(list);
     arin_sink_read(list);
     arin_sink_write(objects);

@@ -68,6 +68,32 @@ int main(void)
     FIELD(arin_flat_reading, list);
     END();
 
+    STRUCT(arin_summary);
+    FIELD(arin_summary, count);
+    FIELD(arin_summary, rows);
+    END();
+
+    STRUCT(arin_summarized);
+    FIELD(arin_summarized, verdict);
+    FIELD(arin_summarized, summary);
+    END();
+
+    STRUCT(arin_flat_request);
+    FIELD(arin_flat_request, kind);
+    FIELD(arin_flat_request, position);
+    FIELD(arin_flat_request, mismatch);
+    FIELD(arin_flat_request, operating);
+    FIELD(arin_flat_request, maximum);
+    FIELD(arin_flat_request, volts20);
+    FIELD(arin_flat_request, volts25);
+    FIELD(arin_flat_request, current50);
+    END();
+
+    STRUCT(arin_flat_taken);
+    FIELD(arin_flat_taken, verdict);
+    FIELD(arin_flat_taken, request);
+    END();
+
     STRUCT(arin_header);
     FIELD(arin_header, extended);
     FIELD(arin_header, count);
