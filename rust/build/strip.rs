@@ -25,9 +25,9 @@ const DEBUG_BY_HAND: [&str; 4] = [
     "messages::Message",
 ];
 
-/// All zero is what an empty list, an empty place, no message or a row before set-up has, and a measure of nothing. A profile that is all
-/// zero is refused, so it has no default. `rust/src/defaults.rs` has that of an object, of either side.
-const ZERO_BY_DEFAULT: [&str; 19] = [
+/// All zero is what an empty list, an empty place, the summary of no list, no request, no message or a row before set-up has, and a measure of
+/// nothing. A profile that is all zero is refused, so it has no default. `rust/src/defaults.rs` has that of an object, of either side.
+const ZERO_BY_DEFAULT: [&str; 21] = [
     "verdicts::Verdict",
     "steps::Mv20",
     "steps::Mv25",
@@ -40,6 +40,7 @@ const ZERO_BY_DEFAULT: [&str; 19] = [
     "lists::Words",
     "lists::Place",
     "lists::Objects",
+    "summaries::Summary",
     "messages::Header",
     "messages::Message",
     "sinks::SinkPlace",
@@ -47,6 +48,7 @@ const ZERO_BY_DEFAULT: [&str; 19] = [
     "ports::Row",
     "flat::FlatObject",
     "flat::FlatObjects",
+    "flat::FlatRequest",
 ];
 
 /// Measures, and what somebody may want to keep sorted. An answer is neither.

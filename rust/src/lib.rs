@@ -1,12 +1,13 @@
 //! Arinduleu: source capabilities for USB-C ports with SPR AVS. It builds the list of supplies that a port advertises, checks such lists,
-//! answers the requests that come back, takes apart, puts together and checks the lists that a sink sends of what it needs, takes apart and
-//! puts together the messages that lists and requests travel in, and shares one supply among up to eight ports.
+//! answers the requests that come back, from the list or from a summary that is kept beside it, takes apart, puts together and checks the
+//! lists that a sink sends of what it needs, takes apart and puts together the messages that lists and requests travel in, and shares one
+//! supply among up to eight ports.
 //!
 //! The modules are the crates of the proved source, with their own names: nothing here is written twice. The build script reads
 //! `crates/*/src/*.rt` and takes the contracts away; what they promise for every input is in `docs/TRACE.md`.
 //!
-//! Firmware calls [`board`]; [`rules`], [`lists`], [`requests`], [`messages`], [`sinks`] and [`objects`] are the floors below it. Nothing
-//! panics, nothing is allocated, and there is no state but the rows that the caller lends.
+//! Firmware calls [`board`]; [`rules`], [`lists`], [`requests`], [`summaries`], [`messages`], [`sinks`] and [`objects`] are the floors below
+//! it. Nothing panics, nothing is allocated, and there is no state but the rows that the caller lends.
 //!
 //! # Refusals
 //!
@@ -71,13 +72,48 @@
 //! }
 //! ```
 //!
+//! # Summaries
+//!
+//! Whoever asks a list again and again, as a display does, keeps a [`summaries::Summary`] beside it: its limits in mV and mA. A request word
+//! is decoded for the object that it names, and answered from the summary. The answer is that of [`requests::answer`], for every list that
+//! [`summaries::summarize`] takes. A battery has a power, which no row has: a request to one goes to the list.
+//!
+//! ```
+//! use arinduleu::rules::{build, default_profile, Profile};
+//! use arinduleu::steps::{HalfWatts, Ma10};
+//! use arinduleu::summaries::{answer_summary, summarize, take_request, ABOVE_15_V, BELOW_15_V, HIGHEST};
+//! use arinduleu::{requests, verdicts, Refusal};
+//!
+//! fn main() -> Result<(), Refusal> {
+//!     // A port of 65 W on a cable of 5 A. The summary is made once for each list.
+//!     let default = default_profile(HalfWatts(130)).ok()?;
+//!     let list = build(Profile { cable: Ma10(500), ..default }).ok()?;
+//!     let summary = summarize(list).ok()?;
+//!
+//!     // The last row is that of AVS: 9 to 20 V, 3 A below 15 V and 3.25 A above.
+//!     let avs = summary.as_slice()[4];
+//!     assert_eq!(avs, [9000, 20000, 3000, 3250]);
+//!     assert_eq!((avs[HIGHEST], avs[BELOW_15_V], avs[ABOVE_15_V]), (20000, 3000, 3250));
+//!
+//!     let answer = |word| match take_request(list, word).ok()? {
+//!         Some(asked) => answer_summary(summary, asked).ok(),
+//!         None => requests::answer(list, word).ok(),
+//!     };
+//!     // Of AVS 15.0 V at 3.25 A, where the larger of the two currents limits; then 3.30 A.
+//!     answer(0x5004_B041)?;
+//!     let refusal = answer(0x5004_B042).unwrap_err();
+//!     assert_eq!(refusal.number(), verdicts::OPERATING_TOO_LARGE);
+//!     Ok(())
+//! }
+//! ```
+//!
 //! # Traits
 //!
-//! Every type can be copied, compared, hashed and shown; words are shown in hex. `Default` is all zero: success, an empty list or place, no
-//! message, a row before set-up, a measure of nothing. [`rules::Profile`] has none, since one that is all zero is refused: see
-//! [`rules::default_profile`]. Measures are ordered by what they measure, verdicts and refusals by number and then by place. The order of
-//! profiles, rows, objects of either side, lists of words and messages goes by their fields as they are declared: it is for sorted
-//! collections, and says nothing of which is better.
+//! Every type can be copied, compared, hashed and shown; words are shown in hex. `Default` is all zero: success, an empty list or place, the
+//! summary of no list, no request, no message, a row before set-up, a measure of nothing. [`rules::Profile`] has none, since one that is all
+//! zero is refused: see [`rules::default_profile`]. Measures are ordered by what they measure, verdicts and refusals by number and then by
+//! place. The order of profiles, rows, objects of either side, lists of words and messages goes by their fields as they are declared: it is
+//! for sorted collections, and says nothing of which is better.
 #![no_std]
 #![forbid(unsafe_code)]
 #![deny(missing_docs, rustdoc::broken_intra_doc_links)]

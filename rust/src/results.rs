@@ -1,6 +1,6 @@
 //! Every answer as a `Result` or an `Option`, so that `?` can be used.
 
-use crate::flat::{FlatObjects, FlatReading, Raised};
+use crate::flat::{FlatObjects, FlatReading, FlatRequest, FlatTaken, Raised};
 use crate::lists::{Listing, Objects, Reading, Words};
 use crate::messages::{Message, MessageReading, Written};
 use crate::objects::{Decoded, Encoded, Object};
@@ -10,6 +10,7 @@ use crate::rules::{Placed, Profile, Profiled};
 use crate::sinks::{SinkDecoded, SinkObject, SinkObjects, SinkReading};
 use crate::steps::{HalfWatts, InMa10, InMa50, InMv100, InMv20, InMv25, InMv50};
 use crate::steps::{Ma10, Ma50, Mv100, Mv20, Mv25, Mv50};
+use crate::summaries::{QuickAsked, Summarized, Summary, TakenRequest};
 use crate::verdicts::{self, Verdict};
 
 const KIND_NOT_ALLOWED: Refusal = Refusal::known(verdicts::KIND_NOT_ALLOWED);
@@ -57,6 +58,8 @@ value_beside_verdict! {
     Listing { list: Words } "list of words";
     Reading { list: Objects } "list of objects";
     FlatReading { list: FlatObjects } "list of flat objects";
+    Summarized { summary: Summary } "summary";
+    FlatTaken { request: FlatRequest } "decoded request";
     MessageReading { message: Message } "message";
     SinkReading { list: SinkObjects } "list of sink objects";
     Profiled { profile: Profile } "profile";
@@ -77,6 +80,28 @@ impl Written {
 impl From<Written> for Result<usize, Refusal> {
     fn from(written: Written) -> Self {
         written.ok()
+    }
+}
+
+// A request to a battery object is no refusal: the list answers it.
+impl TakenRequest {
+    /// The decoded request where a summary can answer it, none where it is to a battery object, which the list has to answer; else its refusal.
+    pub const fn ok(self) -> Result<Option<QuickAsked>, Refusal> {
+        match self {
+            TakenRequest::Quick(asked) => Ok(Some(asked)),
+            TakenRequest::Battery { .. } => Ok(None),
+            TakenRequest::Refused(verdict) => match verdict.ok() {
+                // No call gives a refusal that is a success; one that was made by hand is for the list.
+                Ok(()) => Ok(None),
+                Err(refusal) => Err(refusal),
+            },
+        }
+    }
+}
+
+impl From<TakenRequest> for Result<Option<QuickAsked>, Refusal> {
+    fn from(taken: TakenRequest) -> Self {
+        taken.ok()
     }
 }
 

@@ -1,5 +1,5 @@
-//! Lists as slices, and slices as lists; the words of a message as a slice. A list or a message has seven places; what lies past its count
-//! is no part of it.
+//! Lists as slices, and slices as lists; the rows of a summary and the words of a message as a slice. Each has seven places; what lies past
+//! its count is no part of it.
 
 use crate::flat::{FlatObject, FlatObjects};
 use crate::lists::{Objects, Place, Words};
@@ -7,6 +7,7 @@ use crate::messages::Message;
 use crate::objects::Object;
 use crate::refusal::Refusal;
 use crate::sinks::{SinkObject, SinkObjects, SinkPlace};
+use crate::summaries::Summary;
 use crate::verdicts;
 
 const COUNT: Refusal = Refusal::known(verdicts::COUNT);
@@ -103,6 +104,15 @@ impl FlatObjects {
     #[must_use]
     pub fn as_slice(&self) -> &[FlatObject] {
         counted(&self.places, self.count)
+    }
+}
+
+impl Summary {
+    /// The rows that count, each by `summaries::LOWEST` and the three beside it. A count above seven, which `summaries::answer_summary`
+    /// refuses, gives all seven.
+    #[must_use]
+    pub fn as_slice(&self) -> &[[u16; 4]] {
+        counted(&self.rows, self.count)
     }
 }
 

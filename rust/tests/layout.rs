@@ -1,11 +1,12 @@
 //! The structs that C sees: their size, their alignment and where each field lies, against what C itself found.
 //! A line of `tests/c/layout.txt` is a C name, the size, the alignment, then each field and its offset.
 
-use arinduleu::flat::{FlatObject, FlatObjects, FlatReading};
+use arinduleu::flat::{FlatObject, FlatObjects, FlatReading, FlatRequest, FlatTaken};
 use arinduleu::lists::{Listing, Words};
 use arinduleu::messages::{Header, Message, MessageReading, Written};
 use arinduleu::ports::{RemainingPower, Row};
 use arinduleu::rules::{Profile, Profiled};
+use arinduleu::summaries::{Summarized, Summary};
 use arinduleu::verdicts::Verdict;
 use std::collections::BTreeSet;
 use std::mem::{align_of, offset_of, size_of};
@@ -37,6 +38,12 @@ fn structs_lie_as_in_c() {
         }),
         line!("arin_flat_objects" FlatObjects { places, count }),
         line!("arin_flat_reading" FlatReading { verdict, list }),
+        line!("arin_summary" Summary { count, rows }),
+        line!("arin_summarized" Summarized { verdict, summary }),
+        line!("arin_flat_request" FlatRequest {
+            kind, position, mismatch, operating, maximum, volts20, volts25, current50
+        }),
+        line!("arin_flat_taken" FlatTaken { verdict, request }),
         line!("arin_header" Header { extended, count, id, power_role, revision, data_role, message_type }),
         line!("arin_message" Message { header, words }),
         line!("arin_message_reading" MessageReading { verdict, message }),

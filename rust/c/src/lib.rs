@@ -3,11 +3,12 @@
 #![no_std]
 
 use arinduleu::board;
-use arinduleu::flat::{FlatObjects, FlatReading};
+use arinduleu::flat::{FlatObjects, FlatReading, FlatRequest, FlatTaken};
 use arinduleu::lists::{Listing, Words};
 use arinduleu::messages::{Message, MessageReading, Written};
 use arinduleu::ports::{RemainingPower, Row};
 use arinduleu::rules::{Profile, Profiled};
+use arinduleu::summaries::{Summarized, Summary};
 use arinduleu::verdicts::Verdict;
 
 /// The rows or the bytes that C lends. A count of zero is none of them, whatever the pointer.
@@ -65,6 +66,21 @@ pub extern "C" fn arin_write(list: FlatObjects) -> Listing {
 #[no_mangle]
 pub extern "C" fn arin_answer(list: Words, word: u32) -> Verdict {
     board::arin_answer(list, word)
+}
+
+#[no_mangle]
+pub extern "C" fn arin_summarize(list: Words) -> Summarized {
+    board::arin_summarize(list)
+}
+
+#[no_mangle]
+pub extern "C" fn arin_take_request(list: Words, word: u32) -> FlatTaken {
+    board::arin_take_request(list, word)
+}
+
+#[no_mangle]
+pub extern "C" fn arin_answer_summary(summary: Summary, request: FlatRequest) -> Verdict {
+    board::arin_answer_summary(summary, request)
 }
 
 #[no_mangle]

@@ -5,9 +5,9 @@ use std::fs;
 use std::path::{Path, PathBuf};
 
 /// The crates that `build.rs` reads.
-const LIBRARY: [&str; 11] = [
-    "verdicts", "steps", "objects", "lists", "rules", "requests", "messages", "sinks", "ports",
-    "flat", "board",
+const LIBRARY: [&str; 12] = [
+    "verdicts", "steps", "objects", "lists", "rules", "requests", "summaries", "messages", "sinks",
+    "ports", "flat", "board",
 ];
 
 /// Line by line, and without reading Rust at all: every file of ours keeps contracts and `ghost use` on lines of their own.
