@@ -95,7 +95,7 @@ while read -r call _ _ stack _ _ model_stack; do
   echo "| $call | $(flash "$library" "$call") | $(flash "$model" "model_${call#arin_}") | $stack | $model_stack |"
 done < <(paste -d ' ' "$made/library.figures" <(cut -d ' ' -f 4 "$made/model.figures"))
 # shellcheck disable=SC2086 # the calls are several words
-echo "| all twenty | $(flash "$library" $calls) | $(flash "$model" ${calls//arin_/model_}) | | |"
+echo "| all twenty-three | $(flash "$library" $calls) | $(flash "$model" ${calls//arin_/model_}) | | |"
 echo
 echo -n "| call | instructions, library | model | library / model | the most, library | model | library / model |"
 echo " divisions, library | model | the most, library | model |"
@@ -107,6 +107,12 @@ paste -d ' ' "$made/library.figures" "$made/model.figures" | awk '
     if (mean <= 1.2 && most <= 1.2) within++
   }
   END { printf "\n%d of %d calls are within 1.20 of the model, in the mean and at the most.\n", within, NR }'
+awk '
+  { of[$1] = $2 }
+  END {
+    printf "\nAn answer from a summary takes %.2f of the instructions of arin_answer, and with arin_take_request before it %.2f.\n", \
+      of["arin_answer_summary"] / of["arin_answer"], (of["arin_take_request"] + of["arin_answer_summary"]) / of["arin_answer"]
+  }' "$made/library.figures"
 echo
 echo "| the rule check of seven objects, six with a current that is judged | divisions, library | model |"
 echo "|---|--:|--:|"

@@ -1,5 +1,5 @@
 #!/usr/bin/env bash
-# The code that firmware gets, in bytes with its constants: what the linker keeps when one call alone is wanted, and all twenty, for
+# The code that firmware gets, in bytes with its constants: what the linker keeps when one call alone is wanted, and all of them, for
 # opt-level 3 and for opt-level s, of the library and of the plain model. It is the code of this machine's kind of CPU.
 set -euo pipefail
 cd "$(dirname "$0")/../rust"
@@ -15,6 +15,7 @@ trap 'rm -rf "$made"' EXIT
 targets=$PWD/target
 
 calls="arin_default_profile arin_build arin_check arin_shape arin_read arin_write arin_answer
+arin_summarize arin_take_request arin_answer_summary
 arin_sink_shape arin_sink_read arin_sink_write arin_sink_check
 arin_read_message arin_take_message arin_write_message
 arin_set_up arin_attach arin_advertise arin_request arin_detach arin_remaining"
@@ -62,4 +63,4 @@ echo "| call | library, opt-level 3 | model, opt-level 3 | library, opt-level s 
 echo "|---|--:|--:|--:|--:|"
 for call in $calls; do line "$call alone" "$call"; done
 # shellcheck disable=SC2086
-line "all twenty" $calls
+line "all twenty-three" $calls

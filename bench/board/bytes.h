@@ -40,6 +40,8 @@ static uint16_t max;
 static struct arin_profile profile;
 static struct arin_words list;
 static _Alignas(4) struct arin_flat_objects objects;
+static _Alignas(4) struct arin_summary summary;
+static _Alignas(4) struct arin_flat_request request;
 static struct arin_row rows[ARIN_MOST_ROWS + 1];
 static uint8_t count, port;
 static uint16_t capacity, cable;
@@ -53,6 +55,8 @@ static struct arin_verdict verdict;
 static struct arin_profiled profiled;
 static struct arin_listing listing;
 static struct arin_flat_reading reading;
+static struct arin_summarized summarized;
+static struct arin_flat_taken taken;
 static struct arin_message_reading message_reading;
 static struct arin_written written;
 static struct arin_remaining_power remaining;
@@ -119,6 +123,23 @@ static void take_objects(void)
         o->high = (uint16_t)take(2);
     }
     objects.count = (uint8_t)take(1);
+}
+
+static void take_summary_and_request(void)
+{
+    summary.count = (uint8_t)take(1);
+    for (int i = 0; i < ARIN_LIST_PLACES; i++) {
+        for (int limit = ARIN_LOWEST; limit <= ARIN_ABOVE_15_V; limit++)
+            summary.rows[i][limit] = (uint16_t)take(2);
+    }
+    request.kind = (uint8_t)take(1);
+    request.position = (uint8_t)take(1);
+    request.mismatch = (uint8_t)take(1);
+    request.operating = (uint16_t)take(2);
+    request.maximum = (uint16_t)take(2);
+    request.volts20 = (uint16_t)take(2);
+    request.volts25 = (uint16_t)take(2);
+    request.current50 = (uint16_t)take(2);
 }
 
 static void take_bytes(void)
@@ -213,6 +234,31 @@ static void give_reading(void)
         give(o.high, 2);
     }
     give(reading.list.count, 1);
+}
+
+static void give_summarized(void)
+{
+    give_verdict_of(summarized.verdict);
+    give(summarized.summary.count, 1);
+    for (int i = 0; i < ARIN_LIST_PLACES; i++) {
+        for (int limit = ARIN_LOWEST; limit <= ARIN_ABOVE_15_V; limit++)
+            give(summarized.summary.rows[i][limit], 2);
+    }
+}
+
+static void give_taken(void)
+{
+    struct arin_flat_request r = taken.request;
+
+    give_verdict_of(taken.verdict);
+    give(r.kind, 1);
+    give(r.position, 1);
+    give(r.mismatch, 1);
+    give(r.operating, 2);
+    give(r.maximum, 2);
+    give(r.volts20, 2);
+    give(r.volts25, 2);
+    give(r.current50, 2);
 }
 
 static void give_message_reading(void)

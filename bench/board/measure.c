@@ -26,6 +26,9 @@ struct arin_verdict model_shape(const struct arin_words *list);
 struct arin_flat_reading model_read(const struct arin_words *list);
 struct arin_listing model_write(const struct arin_flat_objects *list);
 struct arin_verdict model_answer(const struct arin_words *list, uint32_t word);
+struct arin_summarized model_summarize(const struct arin_words *list);
+struct arin_flat_taken model_take_request(const struct arin_words *list, uint32_t word);
+struct arin_verdict model_answer_summary(const struct arin_summary *summary, const struct arin_flat_request *request);
 struct arin_verdict model_sink_shape(const struct arin_words *list);
 struct arin_flat_reading model_sink_read(const struct arin_words *list);
 struct arin_listing model_sink_write(const struct arin_flat_objects *list);
@@ -135,6 +138,21 @@ static void call_answer(void)
     ASK(verdict, CALL(answer)(GIVE(list), word));
 }
 
+static void call_summarize(void)
+{
+    ASK(summarized, CALL(summarize)(GIVE(list)));
+}
+
+static void call_take_request(void)
+{
+    ASK(taken, CALL(take_request)(GIVE(list), word));
+}
+
+static void call_answer_summary(void)
+{
+    ASK(verdict, CALL(answer_summary)(GIVE(summary), GIVE(request)));
+}
+
 static void call_sink_shape(void)
 {
     ASK(verdict, CALL(sink_shape)(GIVE(list)));
@@ -213,6 +231,9 @@ static const struct {
     { "arin_read", take_list, call_read, give_reading },
     { "arin_write", take_objects, call_write, give_listing },
     { "arin_answer", take_list_and_word, call_answer, give_verdict },
+    { "arin_summarize", take_list, call_summarize, give_summarized },
+    { "arin_take_request", take_list_and_word, call_take_request, give_taken },
+    { "arin_answer_summary", take_summary_and_request, call_answer_summary, give_verdict },
     { "arin_sink_shape", take_list, call_sink_shape, give_verdict },
     { "arin_sink_read", take_list, call_sink_read, give_reading },
     { "arin_sink_write", take_objects, call_sink_write, give_listing },

@@ -86,11 +86,13 @@ const BY_SIDE: &str = "side: Side";
 /// The shape check of each side, whole: in the midst of its callers it makes them longer and slower.
 const WHOLE: [&str; 2] = ["lists::shape", "lists::shape_sink"];
 
-/// Put into their callers too: these take an object that the caller has just made, or make one that it takes apart.
-const OBJECTS_AND_WORDS: [&str; 3] = [
+/// Put into their callers too: these take an object or a decoded request that the caller has just made, or make one that it takes apart.
+const OBJECTS_AND_WORDS: [&str; 5] = [
     "objects::decode_sink",
     "objects::encode",
     "sinks::sink_decode",
+    "summaries::answer_summary",
+    "summaries::take_request",
 ];
 
 const REPR_C: &str = "#[repr(C)]\n";

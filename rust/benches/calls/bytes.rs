@@ -4,12 +4,13 @@
 use crate::inputs::{self, Turn};
 use crate::messages::{self, Lent, ROOM};
 use crate::wrappers::library;
-use crate::{hardest, lists, objects, sinks, tables};
-use arinduleu::flat::{FlatObject, FlatObjects, FlatReading};
+use crate::{hardest, lists, objects, sinks, summaries, tables};
+use arinduleu::flat::{FlatObject, FlatObjects, FlatReading, FlatRequest, FlatTaken};
 use arinduleu::lists::{Listing, Words};
 use arinduleu::messages::{Header, Message, MessageReading, Written};
 use arinduleu::ports::{RemainingPower, Row};
 use arinduleu::rules::{Profile, Profiled};
+use arinduleu::summaries::{Summarized, Summary};
 use arinduleu::verdicts::Verdict;
 
 trait Bytes {
@@ -58,6 +59,10 @@ fields! {
     }
     FlatObjects { places, count }
     FlatReading { verdict, list }
+    Summary { count, rows }
+    Summarized { verdict, summary }
+    FlatRequest { kind, position, mismatch, operating.0, maximum.0, volts20.0, volts25.0, current50.0 }
+    FlatTaken { verdict, request }
 }
 
 impl<A: Bytes, const N: usize> Bytes for [A; N] {
@@ -137,6 +142,15 @@ pub fn of_all_calls() -> Streams {
     all.add(objects::answers(), hardest::answers(), |(l, w)| {
         library::answer(*l, *w)
     });
+    all.add(lists::lists(), hardest::lists(), |l| library::summarize(*l));
+    all.add(objects::answers(), hardest::answers(), |(l, w)| {
+        library::flat_take_request(*l, *w)
+    });
+    all.add(
+        summaries::flat_answers(),
+        hardest::flat_summary_answers(),
+        |(s, r)| library::flat_answer_summary(*s, *r),
+    );
     all.add(sinks::lists(), hardest::sink_lists(), |l| {
         library::sink_shape(*l)
     });

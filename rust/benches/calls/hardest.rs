@@ -9,8 +9,8 @@ use crate::messages::{lent, Lent, ROOM};
 use crate::sinks;
 use crate::tables::NO_ROW;
 use crate::wrappers::library::{attach, build, decode, detach, flat_read, request, set_up, shape};
-use crate::wrappers::library::{sink_flat_read, sink_shape};
-use arinduleu::flat::FlatObjects;
+use crate::wrappers::library::{flat_take_request, sink_flat_read, sink_shape, summarize};
+use arinduleu::flat::{FlatObjects, FlatRequest};
 use arinduleu::lists::Words;
 use arinduleu::messages::{Header, Message};
 use arinduleu::objects::{Decoded, Object};
@@ -18,6 +18,7 @@ use arinduleu::ports::Row;
 use arinduleu::rules::Profile;
 use arinduleu::sinks::SinkObject;
 use arinduleu::steps::{HalfWatts, Ma10, Ma50, Mv100, Mv50, Mw250};
+use arinduleu::summaries::Summary;
 use arinduleu::verdicts;
 
 /// P = M for every M, with each of these cables, rounding and wish for PPS.
@@ -253,6 +254,12 @@ fn requests(list: Words) -> impl Iterator<Item = (Words, u32)> {
 
 pub fn answers() -> Vec<(Words, u32)> {
     lists().into_iter().flat_map(requests).collect()
+}
+
+/// The same from summaries, a battery's too, which are refused.
+pub fn flat_summary_answers() -> Vec<(Summary, FlatRequest)> {
+    let flat = |(list, word)| (summarize(list).summary, flat_take_request(list, word).request);
+    answers().into_iter().map(flat).collect()
 }
 
 /// Every field of the header that is carried has all its bits.

@@ -5,6 +5,7 @@ use crate::messages::ROOM;
 use crate::translate::{Plain, PlainTurn};
 use arinduleu::messages::{Message, Written};
 use arinduleu::ports::Row as PortRow;
+use arinduleu::verdicts::Verdict;
 use std::hint::black_box;
 use std::time::{Duration, Instant};
 
@@ -61,6 +62,21 @@ where
             let mut pairs = ours.iter().zip(&theirs);
             pairs.position(|(a, b)| library(a).plain() != model(b))
         }),
+    }
+}
+
+/// Two ways of the library to one answer. The first stands on its side, the second on the model's.
+pub fn two_ways<A: Clone + 'static>(
+    inputs: Vec<A>,
+    one: impl Fn(&A) -> Verdict + Copy + 'static,
+    other: impl Fn(&A) -> Verdict + Copy + 'static,
+) -> Call {
+    let (first, second, both) = (inputs.clone(), inputs.clone(), inputs);
+    Call {
+        inputs: both.len(),
+        library: Box::new(move || over(&first, one)),
+        model: Box::new(move || over(&second, other)),
+        differs: Box::new(move || both.iter().position(|a| one(a) != other(a))),
     }
 }
 

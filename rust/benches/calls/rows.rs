@@ -6,6 +6,7 @@ use crate::measure::{call, port_call, writing_call, Row};
 use crate::messages;
 use crate::objects;
 use crate::sinks;
+use crate::summaries;
 use crate::tables;
 use crate::wrappers::{library, plain};
 use std::hint::black_box;
@@ -40,6 +41,7 @@ macro_rules! port_row {
 pub fn all() -> Vec<Row> {
     let mut rows = of_the_loop();
     rows.extend(of_lists());
+    rows.extend(of_summaries());
     rows.extend(of_sinks());
     rows.extend(of_messages());
     rows.extend(of_ports());
@@ -67,6 +69,18 @@ fn of_lists() -> Vec<Row> {
         row!("arin_answer", objects::answers(), answer as fn(_, _) -> _ | fn(&_, _) -> _, |(l, w)| (*l, *w), |(l, w)| (l, *w)),
         row!("lists::read", lists::lists(), read as fn(_) -> _ | fn(&_) -> _, |l| (*l), |l| (l)),
         row!("lists::write", lists::object_lists(), write as fn(_) -> _ | fn(&_) -> _, |l| (*l), |l| (l)),
+    ]
+}
+
+fn of_summaries() -> Vec<Row> {
+    vec![
+        row!("arin_summarize", lists::lists(), summarize as fn(_) -> _ | fn(&_) -> _, |l| (*l), |l| (l)),
+        row!("arin_take_request", objects::answers(), flat_take_request as fn(_, _) -> _ | fn(&_, _) -> _, |(l, w)| (*l, *w), |(l, w)| (l, *w)),
+        row!("arin_answer_summary", summaries::flat_answers(), flat_answer_summary as fn(_, _) -> _ | fn(&_, &_) -> _,
+            |(s, r)| (*s, *r), |(s, r)| (s, r)),
+        row!("summaries::take_request", objects::answers(), take_request as fn(_, _) -> _ | fn(&_, _) -> _, |(l, w)| (*l, *w), |(l, w)| (l, *w)),
+        row!("summaries::answer_summary", summaries::answers(), answer_summary as fn(_, _) -> _ | fn(&_, &_) -> _,
+            |(s, r)| (*s, *r), |(s, r)| (s, r)),
     ]
 }
 

@@ -2,7 +2,7 @@
 
 use crate::inputs::Turn;
 use crate::messages::Lent;
-use arinduleu::flat::{FlatObject, FlatObjects, FlatReading, Raised};
+use arinduleu::flat::{FlatObject, FlatObjects, FlatReading, FlatRequest, FlatTaken, Raised};
 use arinduleu::lists::{Listing, Objects, Reading, Words};
 use arinduleu::messages::{Header, Message, MessageReading, Written};
 use arinduleu::objects::{Decoded, Encoded, Object, Side};
@@ -11,6 +11,7 @@ use arinduleu::requests::{Asked, Request};
 use arinduleu::rules::{Profile, Profiled};
 use arinduleu::sinks::{SinkDecoded, SinkObject, SinkObjects, SinkReading};
 use arinduleu::steps::{InMa10, InMa50, InMv100, InMv20, InMv50, Roundings};
+use arinduleu::summaries::{QuickAsked, QuickRequest, Summarized, Summary, TakenRequest};
 use arinduleu::verdicts::Verdict;
 
 pub trait Plain: Clone {
@@ -128,6 +129,27 @@ translate! {
         Request::Avs { volts, current } => model::Request::Avs { volts: volts.0, current: current.0 },
     };
     Asked => model::Asked: |a| model::Asked { position: a.position, mismatch: a.mismatch, request: a.request.plain() };
+    Summary => model::Summary: |s| model::Summary { count: s.count, rows: s.rows };
+    Summarized => model::Summarized: |s| model::Summarized { verdict: s.verdict.plain(), summary: s.summary.plain() };
+    QuickRequest => model::Figures: |r| match r {
+        QuickRequest::Fixed { operating, maximum } => model::Figures::Fixed { operating: operating.0, maximum: maximum.0 },
+        QuickRequest::Variable { operating, maximum } => model::Figures::Variable { operating: operating.0, maximum: maximum.0 },
+        QuickRequest::Pps { volts, current } => model::Figures::Pps { volts: volts.0, current: current.0 },
+        QuickRequest::Avs { volts, current } => model::Figures::Avs { volts: volts.0, current: current.0 },
+    };
+    QuickAsked => model::DecodedRequest: |a| model::DecodedRequest {
+        position: a.position, mismatch: a.mismatch, figures: a.request.plain(),
+    };
+    TakenRequest => model::Taken: |t| match t {
+        TakenRequest::Refused(verdict) => model::Taken::Refused(verdict.plain()),
+        TakenRequest::Battery { .. } => model::Taken::Battery,
+        TakenRequest::Quick(asked) => model::Taken::Decoded(asked.plain()),
+    };
+    FlatRequest => model::FlatRequest: |f| model::FlatRequest {
+        kind: f.kind, position: f.position, mismatch: f.mismatch, operating: f.operating.0, maximum: f.maximum.0,
+        volts20: f.volts20.0, volts25: f.volts25.0, current50: f.current50.0,
+    };
+    FlatTaken => model::FlatTaken: |t| model::FlatTaken { verdict: t.verdict.plain(), request: t.request.plain() };
     Decoded => Option<model::Object>: |d| match d { Decoded::Known(o) => Some(o.plain()), Decoded::NotAllowed => None };
     Raised => Option<model::Object>: |r| match r { Raised::Known(o) => Some(o.plain()), Raised::Unknown => None };
     Encoded => Option<u32>: |e| match e { Encoded::Word(w) => Some(w), Encoded::TooWide => None };

@@ -12,7 +12,9 @@ macro_rules! wrap {
 
 pub mod library {
     use arinduleu::board;
-    use arinduleu::flat::{self, FlatObject, FlatObjects, FlatReading, Raised};
+    use arinduleu::flat::{
+        self, FlatObject, FlatObjects, FlatReading, FlatRequest, FlatTaken, Raised,
+    };
     use arinduleu::lists::{self, Listing, Objects, Reading, Words};
     use arinduleu::messages::{Message, MessageReading, Written};
     use arinduleu::objects::{self, Decoded, Encoded, Object, Side};
@@ -24,6 +26,7 @@ pub mod library {
         self, InMa10, InMa50, InMv100, InMv20, InMv50, Ma10, Ma50, Mv100, Mv20, Mv25, Mv50,
         Roundings,
     };
+    use arinduleu::summaries::{self, QuickAsked, Summarized, Summary, TakenRequest};
     use arinduleu::verdicts::Verdict;
 
     wrap! {
@@ -37,6 +40,12 @@ pub mod library {
         flat_read(list: Words) -> FlatReading = board::arin_read(list);
         flat_write(list: FlatObjects) -> Listing = board::arin_write(list);
         answer(list: Words, word: u32) -> Verdict = board::arin_answer(list, word);
+
+        summarize(list: Words) -> Summarized = board::arin_summarize(list);
+        flat_take_request(list: Words, word: u32) -> FlatTaken = board::arin_take_request(list, word);
+        flat_answer_summary(summary: Summary, request: FlatRequest) -> Verdict = board::arin_answer_summary(summary, request);
+        take_request(list: Words, word: u32) -> TakenRequest = summaries::take_request(list, word);
+        answer_summary(summary: Summary, asked: QuickAsked) -> Verdict = summaries::answer_summary(summary, asked);
 
         sink_shape(list: Words) -> Verdict = board::arin_sink_shape(list);
         sink_flat_read(list: Words) -> FlatReading = board::arin_sink_read(list);
@@ -84,9 +93,10 @@ pub mod library {
 
 pub mod plain {
     use model::{
-        Asked, FlatObject, FlatObjects, FlatReading, Listing, Message, MessageReading, Object,
-        Objects, Profile, Profiled, Reading, RemainingPower, Row, Side, SinkObject, SinkObjects,
-        SinkReading, Verdict, Words, Written,
+        Asked, DecodedRequest, FlatObject, FlatObjects, FlatReading, FlatRequest, FlatTaken,
+        Listing, Message, MessageReading, Object, Objects, Profile, Profiled, Reading,
+        RemainingPower, Row, Side, SinkObject, SinkObjects, SinkReading, Summarized, Summary, Taken,
+        Verdict, Words, Written,
     };
 
     wrap! {
@@ -100,6 +110,12 @@ pub mod plain {
         flat_read(list: &Words) -> FlatReading = model::flat_read(list);
         flat_write(list: &FlatObjects) -> Listing = model::flat_write(list);
         answer(list: &Words, word: u32) -> Verdict = model::answer(list, word);
+
+        summarize(list: &Words) -> Summarized = model::summarize(list);
+        flat_take_request(list: &Words, word: u32) -> FlatTaken = model::flat_take_request(list, word);
+        flat_answer_summary(summary: &Summary, request: &FlatRequest) -> Verdict = model::flat_answer_summary(summary, request);
+        take_request(list: &Words, word: u32) -> Taken = model::take_request(list, word);
+        answer_summary(summary: &Summary, request: &DecodedRequest) -> Verdict = model::answer_summary(summary, request);
 
         sink_shape(list: &Words) -> Verdict = model::sink_shape(list);
         sink_flat_read(list: &Words) -> FlatReading = model::sink_flat_read(list);

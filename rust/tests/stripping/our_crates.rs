@@ -103,6 +103,8 @@ fn functions_known_by_name() {
         "fn decode_sink",
         "fn encode",
         "fn sink_decode",
+        "fn answer_summary",
+        "fn take_request",
         "fn shape_for",
     ] {
         assert!(always.contains(&name), "{name}");
