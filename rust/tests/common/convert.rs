@@ -1,7 +1,9 @@
 //! The library's values as the model's, which counts in plain numbers, and back.
 
 use arinduleu::steps::{HalfWatts, Ma10, Ma50, Mv100, Mv20, Mv25, Mv50, Mw250};
-use arinduleu::{flat, lists, messages, objects, ports, requests, rules, sinks, verdicts};
+use arinduleu::{
+    flat, lists, messages, objects, ports, requests, rules, sinks, summaries, verdicts,
+};
 
 pub trait ToModel {
     type Model;
@@ -82,6 +84,12 @@ structs! {
         max100: Mv100, min100: Mv100, current50: Ma50, low: Ma10, high: Ma10
     } {}
     flat::FlatReading {} {} { verdict, list }
+    flat::FlatRequest { kind, position, mismatch } {
+        operating: Ma10, maximum: Ma10, volts20: Mv20, volts25: Mv25, current50: Ma50
+    } {}
+    flat::FlatTaken {} {} { verdict, request }
+    summaries::Summary { count, rows } {} {}
+    summaries::Summarized {} {} { verdict, summary }
     messages::Header { extended, count, id, power_role, revision, data_role, message_type } {} {}
     messages::Message { words } {} { header }
     messages::MessageReading {} {} { verdict, message }
@@ -178,6 +186,91 @@ impl ToLibrary for model::FlatObjects {
         flat::FlatObjects {
             places: self.places.map(ToLibrary::library),
             count: self.count,
+        }
+    }
+}
+
+// What is decoded has other names in the model.
+impl ToModel for summaries::QuickRequest {
+    type Model = model::Figures;
+    fn model(self) -> model::Figures {
+        use summaries::QuickRequest::{Avs, Fixed, Pps, Variable};
+        match self {
+            Fixed { operating, maximum } => model::Figures::Fixed {
+                operating: operating.0,
+                maximum: maximum.0,
+            },
+            Variable { operating, maximum } => model::Figures::Variable {
+                operating: operating.0,
+                maximum: maximum.0,
+            },
+            Pps { volts, current } => model::Figures::Pps {
+                volts: volts.0,
+                current: current.0,
+            },
+            Avs { volts, current } => model::Figures::Avs {
+                volts: volts.0,
+                current: current.0,
+            },
+        }
+    }
+}
+
+impl ToLibrary for model::Figures {
+    type Library = summaries::QuickRequest;
+    fn library(self) -> summaries::QuickRequest {
+        use model::Figures::{Avs, Fixed, Pps, Variable};
+        match self {
+            Fixed { operating, maximum } => summaries::QuickRequest::Fixed {
+                operating: Ma10(operating),
+                maximum: Ma10(maximum),
+            },
+            Variable { operating, maximum } => summaries::QuickRequest::Variable {
+                operating: Ma10(operating),
+                maximum: Ma10(maximum),
+            },
+            Pps { volts, current } => summaries::QuickRequest::Pps {
+                volts: Mv20(volts),
+                current: Ma50(current),
+            },
+            Avs { volts, current } => summaries::QuickRequest::Avs {
+                volts: Mv25(volts),
+                current: Ma50(current),
+            },
+        }
+    }
+}
+
+impl ToModel for summaries::QuickAsked {
+    type Model = model::DecodedRequest;
+    fn model(self) -> model::DecodedRequest {
+        model::DecodedRequest {
+            position: self.position,
+            mismatch: self.mismatch,
+            figures: self.request.model(),
+        }
+    }
+}
+
+impl ToLibrary for model::DecodedRequest {
+    type Library = summaries::QuickAsked;
+    fn library(self) -> summaries::QuickAsked {
+        summaries::QuickAsked {
+            position: self.position,
+            mismatch: self.mismatch,
+            request: self.figures.library(),
+        }
+    }
+}
+
+/// The model does not say the position and the mismatch bit of what is for the list: the flat forms have them on both sides.
+impl ToModel for summaries::TakenRequest {
+    type Model = model::Taken;
+    fn model(self) -> model::Taken {
+        match self {
+            summaries::TakenRequest::Refused(verdict) => model::Taken::Refused(verdict.model()),
+            summaries::TakenRequest::Battery { .. } => model::Taken::Battery,
+            summaries::TakenRequest::Quick(asked) => model::Taken::Decoded(asked.model()),
         }
     }
 }

@@ -23,6 +23,8 @@ mod sinks_made;
 mod standings;
 mod standings_made;
 mod steps;
+mod summaries;
+mod summaries_made;
 mod table;
 mod words;
 
@@ -33,6 +35,7 @@ fn every_number_of_the_statement_belongs_to_a_part() {
         lists::NUMBERS,
         rules::NUMBERS,
         requests::NUMBERS,
+        summaries::NUMBERS,
         messages::NUMBERS,
         sinks::NUMBERS,
         ports::NUMBERS,

@@ -1,8 +1,9 @@
-//! The names of the refusal numbers, of the flat kinds and of the types of messages. No call gives 9 and a call's answer shows a number
-//! and no name, so this is the only place where a wrong name would be seen.
+//! The names of the refusal numbers, of the flat kinds, of the limits in a row and of the types of messages. No call gives 9 and a call's
+//! answer shows a number and no name, so this is the only place where a wrong name would be seen.
 
 use arinduleu::flat::*;
 use arinduleu::messages::*;
+use arinduleu::summaries::*;
 use arinduleu::verdicts::*;
 
 #[test]
@@ -80,6 +81,11 @@ fn flat_kinds_have_the_order_of_the_statement() {
         [KIND_FIXED, KIND_BATTERY, KIND_VARIABLE, KIND_PPS, KIND_AVS],
         [0, 1, 2, 3, 4]
     );
+}
+
+#[test]
+fn limits_have_the_order_of_the_statement() {
+    assert_eq!([LOWEST, HIGHEST, BELOW_15_V, ABOVE_15_V], [0, 1, 2, 3]);
 }
 
 #[test]
