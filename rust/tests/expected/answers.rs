@@ -1,6 +1,6 @@
 //! Every answer as a `Result` or an `Option`: `?` gives the value or the refusal of the call itself.
 
-use arinduleu::flat::{self, FlatObject, FlatObjects};
+use arinduleu::flat::{self, FlatObject, FlatObjects, FlatRequest};
 use arinduleu::lists::{self, Objects, Words};
 use arinduleu::messages::{self, Header, Message, LONGEST_MESSAGE};
 use arinduleu::objects::{self, Object};
@@ -8,6 +8,8 @@ use arinduleu::ports::{Row, NO_ROW};
 use arinduleu::rules::{self, Profile};
 use arinduleu::sinks::{self, SinkObject, SinkObjects};
 use arinduleu::steps::{HalfWatts, Ma10, Ma50, Mv100, Mv20, Mv25, Mv50};
+use arinduleu::summaries::{self, QuickAsked, QuickRequest, Summary, TakenRequest};
+use arinduleu::verdicts::Verdict;
 use arinduleu::{board, requests, verdicts, Refusal};
 
 fn refusal(number: u8, place: u8) -> Refusal {
@@ -107,6 +109,44 @@ fn sink_lists() {
 }
 
 #[test]
+fn summaries_and_decoded_requests() {
+    fn answered(list: Words, word: u32) -> Result<bool, Refusal> {
+        let summary = summaries::summarize(list).ok()?;
+        let Some(asked) = summaries::take_request(list, word).ok()? else {
+            return Ok(false);
+        };
+        summaries::answer_summary(summary, asked).ok()?;
+        Ok(true)
+    }
+    fn flat_answered(list: Words, word: u32) -> Result<(), Refusal> {
+        let summary: Summary = board::arin_summarize(list).ok()?;
+        let request: FlatRequest = board::arin_take_request(list, word).ok()?;
+        board::arin_answer_summary(summary, request).ok()
+    }
+    let list = example().unwrap();
+    // AVS at 15.0 V and 2.4 A, and then a step more.
+    assert_eq!(answered(list, 0x4004_B030), Ok(true));
+    assert_eq!(flat_answered(list, 0x4004_B030), Ok(()));
+    let too_large = refusal(verdicts::OPERATING_TOO_LARGE, 0);
+    assert_eq!(answered(list, 0x4004_B031), Err(too_large));
+    assert_eq!(flat_answered(list, 0x4004_B031), Err(too_large));
+    let no_object = refusal(verdicts::POSITION, 0);
+    assert_eq!(answered(list, 0x7000_0000), Err(no_object));
+    assert_eq!(flat_answered(list, 0x7000_0000), Err(no_object));
+    let none = refusal(verdicts::COUNT, 0);
+    assert_eq!(answered(Words::default(), 0x1000_0000), Err(none));
+
+    // A battery's request is no refusal, but from C: there its kind has no answer from a summary.
+    let battery = Words::try_from(&[0x0001_912C, 0x5A41_90C8][..]).unwrap();
+    assert_eq!(answered(battery, 0x2003_20C8), Ok(false));
+    let no_kind = refusal(verdicts::KIND_NOT_ALLOWED, 0);
+    assert_eq!(flat_answered(battery, 0x2003_20C8), Err(no_kind));
+    // One that nobody gives: a refusal that is none.
+    let success = TakenRequest::Refused(Verdict::default());
+    assert_eq!(success.ok(), Ok(None));
+}
+
+#[test]
 fn ports_that_share() {
     fn share(rows: &mut [Row], cable: u16) -> Result<HalfWatts, Refusal> {
         board::arin_set_up(rows, 200).ok()?;
@@ -187,6 +227,15 @@ fn answers_are_turned_into_results() {
     assert_eq!(read.unwrap().count, 6);
     let flat: Result<FlatObjects, Refusal> = flat::flat_read(list).into();
     assert_eq!(flat.unwrap().count, 6);
+    let summary: Result<Summary, Refusal> = summaries::summarize(list).into();
+    assert_eq!(summary.unwrap().as_slice().len(), 6);
+    let taken: Result<Option<QuickAsked>, Refusal> =
+        summaries::take_request(list, 0x1004_B12C).into();
+    let asked = taken.unwrap().unwrap();
+    let (operating, maximum) = (Ma10(300), Ma10(300));
+    assert_eq!(asked.request, QuickRequest::Fixed { operating, maximum });
+    let request: Result<FlatRequest, Refusal> = flat::flat_take_request(list, 0).into();
+    assert_eq!(request, Err(refusal(verdicts::POSITION, 0)));
     let none = Words::default();
     let needs: Result<SinkObjects, Refusal> = sinks::sink_read(none).into();
     assert_eq!(needs, Err(refusal(verdicts::COUNT, 0)));

@@ -1,4 +1,4 @@
-//! Lists as slices, and slices as lists; a message from what it carries.
+//! Lists, and the rows of a summary, as slices, and slices as lists; a message from what it carries.
 
 use arinduleu::flat::{FlatObject, FlatObjects};
 use arinduleu::lists::{Objects, Place, Words, EMPTY_PLACE};
@@ -6,6 +6,7 @@ use arinduleu::messages::{Header, Message, REQUEST, SOURCE_CAPABILITIES};
 use arinduleu::objects::Object;
 use arinduleu::sinks::{SinkObject, SinkObjects, SinkPlace, EMPTY_SINK_PLACE};
 use arinduleu::steps::{Ma10, Mv50};
+use arinduleu::summaries::Summary;
 use arinduleu::{verdicts, Refusal};
 
 /// Every count, those above seven too.
@@ -28,6 +29,8 @@ fn what_counts_is_a_slice() {
             ..Header::default()
         };
         assert_eq!(Message { header, words }.as_slice(), &words[..n]);
+        let rows = words.map(|lowest| [lowest as u16, 2, 3, 4]);
+        assert_eq!(Summary { count, rows }.as_slice(), &rows[..n]);
         assert_eq!(Objects { places, count }.as_slice(), &places[..n]);
         let places = needs;
         assert_eq!(SinkObjects { places, count }.as_slice(), &needs[..n]);

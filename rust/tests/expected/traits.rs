@@ -1,6 +1,6 @@
 //! The traits that every Rust user looks for, and `#[must_use]` on every call.
 
-use arinduleu::flat::{FlatObject, FlatObjects, KIND_FIXED};
+use arinduleu::flat::{self, FlatObject, FlatObjects, FlatRequest, KIND_FIXED};
 use arinduleu::lists::{self, Objects, Place, Words, EMPTY_PLACE, NO_WORDS};
 use arinduleu::messages::{Header, Message, NO_MESSAGE};
 use arinduleu::objects::{self, Encoded, Object, Side};
@@ -8,6 +8,7 @@ use arinduleu::ports::{Row, NO_ROW};
 use arinduleu::rules::{self, Placed, Profile};
 use arinduleu::sinks::{self, SinkObject, SinkObjects, SinkPlace, EMPTY_SINK_PLACE};
 use arinduleu::steps::{HalfWatts, Ma10, Ma50, Mv100, Mv20, Mv25, Mv50, Mw250};
+use arinduleu::summaries::{self, Summary};
 use arinduleu::verdicts::{self, Verdict};
 use arinduleu::Refusal;
 use std::collections::{BTreeSet, HashSet};
@@ -31,6 +32,16 @@ fn words_are_shown_in_hex() {
     assert_eq!(
         format!("{needs:?}"),
         "Known(Fixed { flags: 0, volts: Mv50(180), current: Ma10(200) })"
+    );
+    let list = Words { count: 1, ..list };
+    assert_eq!(
+        format!("{:?}", flat::flat_take_request(list, 0x1400_2803)),
+        "FlatTaken { verdict: Verdict { number: 0, place: 0 }, request: FlatRequest { kind: 0, position: 1, mismatch: 1, \
+        operating: Ma10(10), maximum: Ma10(3), volts20: Mv20(0), volts25: Mv25(0), current50: Ma50(0) } }"
+    );
+    assert_eq!(
+        format!("{:?}", summaries::take_request(list, 0x1400_2803)),
+        "Quick(QuickAsked { position: 1, mismatch: true, request: Fixed { operating: Ma10(10), maximum: Ma10(3) } })"
     );
     let listing = lists::refuse(verdicts::ORDER, 3);
     assert!(format!("{listing:?}").contains("Words { words: [0x00000000, "));
@@ -57,6 +68,12 @@ fn defaults_are_all_zero() {
     assert_eq!(SinkPlace::default(), EMPTY_SINK_PLACE);
     assert_eq!(SinkObjects::default().places, [EMPTY_SINK_PLACE; 7]);
     assert_eq!(SinkObjects::default().count, 0);
+    assert_eq!(Summary::default().count, 0);
+    assert_eq!(Summary::default().rows, [[0; 4]; 7]);
+    let refused = summaries::summarize(Words::default()).summary;
+    assert_eq!(Summary::default(), refused);
+    let refused = flat::flat_take_request(Words::default(), 0x1000_0000).request;
+    assert_eq!(FlatRequest::default(), refused);
     assert_eq!(Message::default(), NO_MESSAGE);
     assert_eq!(Header::default(), NO_MESSAGE.header);
     assert_eq!(Row::default(), NO_ROW);
@@ -119,6 +136,12 @@ fn what_is_kept_in_collections() {
     assert_eq!(both(&objects.map(arinduleu::flat::flatten)), 2);
     let hashed = HashSet::from(lists.map(lists::read));
     assert_eq!(hashed.len(), 2);
+    let hashed = HashSet::from(lists.map(summaries::summarize));
+    assert_eq!(hashed.len(), 2);
+    let taken = lists.map(|l| summaries::take_request(l, 0x3004_B12C));
+    assert_eq!(HashSet::from(taken).len(), 1);
+    let flat = lists.map(|l| flat::flat_take_request(l, 0x3004_B12C));
+    assert_eq!(HashSet::from(flat).len(), 1);
     let sides = HashSet::from([Side::Source, Side::Sink, Side::Sink]);
     assert_eq!(sides.len(), 2);
 }

@@ -16,4 +16,5 @@ mod sink_flat;
 mod sink_lists;
 mod sink_words;
 mod steps;
+mod summaries;
 mod words;
