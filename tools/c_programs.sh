@@ -2,7 +2,7 @@
 # then run here and compared. The caller has tools/skipping.sh and tools/passing.sh.
 
 warnings=(-Wall -Wextra -Wpedantic -Werror)
-sources=(examples/two_ports.c tests/c/calls.c tests/c/sinks.c tests/c/layout.c)
+sources=(examples/two_ports.c tests/c/calls.c tests/c/sinks.c tests/c/summaries.c tests/c/layout.c)
 
 # The program of a source, in the folder of what is made.
 program() {
@@ -28,7 +28,7 @@ run_example() {
 run_calls() {
   local where=$1 name count all=0
   shift
-  for name in calls sinks; do
+  for name in calls sinks summaries; do
     limited "$@" "$made/$name" > "$made/out" || {
       cat "$made/out" >&2
       fail "a call of tests/c/$name.c does not answer as it should, $where"

@@ -161,7 +161,7 @@ with_cc() {
 # The example and the calls once more as C++ programs: they link only because the header says extern "C".
 with_cxx() {
   local source
-  for source in examples/two_ports.c tests/c/calls.c tests/c/sinks.c; do
+  for source in examples/two_ports.c tests/c/calls.c tests/c/sinks.c tests/c/summaries.c; do
     quietly "c++ does not build $source" \
       c++ -x c++ -std=c++17 "${warnings[@]}" -Iinclude "$source" -x none "rust/target/$cargo_library" -o "$(program "$source")"
   done
@@ -280,7 +280,7 @@ with_checks() {
   local -x CARGO_PROFILE_RELEASE_DEBUG_ASSERTIONS=true CARGO_PROFILE_RELEASE_OVERFLOW_CHECKS=true
   local source
   cargo_build "$made/checked"
-  for source in tests/c/calls.c tests/c/sinks.c; do
+  for source in tests/c/calls.c tests/c/sinks.c tests/c/summaries.c; do
     quietly "cc does not build $source" \
       cc -std=c11 "${warnings[@]}" -Iinclude "$source" "$made/checked/$cargo_library" -o "$(program "$source")"
   done

@@ -1,8 +1,9 @@
 /*
- * Each call of arinduleu.h on good and on refused input, and its macros; sinks.c has those on sink lists. The values are those of the
- * statement's hand-worked cases, or worked out from it. The file is C and C++ at once, so that the header's extern "C" is linked with too.
+ * Each call of arinduleu.h on good and on refused input, and its macros; summaries.c has those on summaries and sinks.c those on sink
+ * lists. The values are those of the statement's hand-worked cases, or worked out from it. The file is C and C++ at once, so that the
+ * header's extern "C" is linked with too.
  */
-#include "checks.h"
+#include "objects.h"
 
 /* ---- Making ---- */
 

@@ -2,7 +2,7 @@
  * The calls of arinduleu.h on sink lists, on good and on refused input. The values are worked out from the statement, "Sink lists". The file
  * is C and C++ at once, as calls.c is.
  */
-#include "checks.h"
+#include "objects.h"
 
 /* ---- Making ---- */
 
