@@ -18,8 +18,8 @@ usage: ./arin board, or tools/board_tests.sh
 
 Installs the library for thumbv6m-none-eabi with tools/install.sh, at opt-level s
 and at 3, and builds with it for a Cortex-M0 and runs on an emulated micro:bit
-  - examples/two_ports.c and the programs in tests/c, whose output is compared
-    with what is stored;
+  - the C programs of examples and of tests/c, whose output is compared with
+    what is stored;
   - the inputs of the benchmark, whose answers have to be those of this machine;
   - the rule check of seven objects, whose divisions are counted;
   - examples/board, copied to another folder and made there, whose output is

@@ -2,7 +2,7 @@
 # then run here and compared. The caller has tools/skipping.sh and tools/passing.sh.
 
 warnings=(-Wall -Wextra -Wpedantic -Werror)
-sources=(examples/two_ports.c tests/c/calls.c tests/c/sinks.c tests/c/summaries.c tests/c/layout.c)
+sources=(examples/two_ports.c examples/display.c tests/c/calls.c tests/c/sinks.c tests/c/summaries.c tests/c/layout.c)
 
 # The program of a source, in the folder of what is made.
 program() {
@@ -15,14 +15,19 @@ limited() {
   if have timeout; then timeout 60 "$@"; else "$@"; fi < /dev/null
 }
 
-# run_example WHERE RUNNER..., and the two below likewise: runs a program that was built, and compares. The runner is the words that
-# stand before the program, or none.
+# run_example NAME WHERE RUNNER...: runs an example that was built, and compares. The runner is the words that stand before the program, or none.
 run_example() {
-  local where=$1
-  shift
-  limited "$@" "$made/two_ports" > "$made/out" || fail "the example ended badly, $where"
-  diff examples/two_ports.out "$made/out" >&2 || fail "the example does not print examples/two_ports.out, $where"
-  pass "the example prints what it should, $where"
+  local name=$1 where=$2
+  shift 2
+  limited "$@" "$made/$name" > "$made/out" || fail "the example $name ended badly, $where"
+  diff "examples/$name.out" "$made/out" >&2 || fail "the example $name does not print examples/$name.out, $where"
+  pass "the example $name prints what it should, $where"
+}
+
+# run_examples WHERE RUNNER..., and those below likewise.
+run_examples() {
+  run_example two_ports "$@"
+  run_example display "$@"
 }
 
 run_calls() {
@@ -49,7 +54,7 @@ run_layout() {
 }
 
 run_all() {
-  run_example "$@"
+  run_examples "$@"
   run_calls "$@"
   run_layout "$@"
 }

@@ -1,5 +1,5 @@
 #!/usr/bin/env bash
-# The tests of the C side: the header, then the example and the tests of the calls, against each library that this machine can make.
+# The tests of the C side: the header, then the examples and the tests of the calls, against each library that this machine can make.
 # The last line is `c: N passed, 0 failed, K skipped`; the one before it says which parts were skipped, and why.
 set -euo pipefail
 cd "$(dirname "$0")/.."
@@ -15,8 +15,8 @@ usage: tools/c_tests.sh
 
 Compiles include/arinduleu.h as C11 and as C++17, holds its names, its table of
 refusals and its version to the Rattle source and to cargo, and sees that an
-answer that is ignored is warned of. Builds and runs examples/two_ports.c and the
-programs in tests/c
+answer that is ignored is warned of. Builds and runs the C programs of examples
+and of tests/c
   - with cc, against the library that cargo makes from rust/c;
   - with the clang of the Rattle kit, against the archive of `rt staticlib board`;
 then the snippet of the README, and the example outside the tree with what
@@ -158,24 +158,25 @@ with_cc() {
   run_all "against the cargo library, $name"
 }
 
-# The example and the calls once more as C++ programs: they link only because the header says extern "C".
+# The examples and the calls once more as C++ programs: they link only because the header says extern "C".
 with_cxx() {
   local source
-  for source in examples/two_ports.c tests/c/calls.c tests/c/sinks.c tests/c/summaries.c; do
+  for source in examples/two_ports.c examples/display.c tests/c/calls.c tests/c/sinks.c tests/c/summaries.c; do
     quietly "c++ does not build $source" \
       c++ -x c++ -std=c++17 "${warnings[@]}" -Iinclude "$source" -x none "rust/target/$cargo_library" -o "$(program "$source")"
   done
-  run_example "against the cargo library, c++"
+  run_examples "against the cargo library, c++"
   run_calls "against the cargo library, c++"
 }
 
-# The code in the README's section for firmware that sets up rows, then that on messages and that on sink lists, put into a function as they stand.
+# The code in the README's section for firmware that sets up rows, then that on messages, on summaries and on sink lists, put into a function as they
+# stand.
 readme_snippet() {
   awk '
     /^## / { inside = $0 == "## From firmware" }
     inside && /^    / { block = block blank $0 "\n"; blank = ""; next }
     inside && /^$/ { blank = blank "\n"; next }
-    { if (block ~ /arin_set_up\(|arin_write_message\(|arin_sink_check\(/) printf "%s", block; block = blank = "" }
+    { if (block ~ /arin_set_up\(|arin_write_message\(|arin_summarize\(|arin_sink_check\(/) printf "%s", block; block = blank = "" }
   ' README.md > "$made/snippet"
   [ -s "$made/snippet" ] || fail "the README has no snippet for firmware"
   {
@@ -191,7 +192,7 @@ snippet_as() {
   quietly "the README's snippet is not $2" \
     "$3" -x "$1" "-std=$2" "${warnings[@]}" -Iinclude "$made/snippet.c" -x none "rust/target/$cargo_library" -o "$made/pasted"
   limited "$made/pasted" > "$made/out" || fail "the README's snippet ended badly, as $2"
-  [ "$(grep -c . "$made/out")" = 3 ] || fail "the README's snippet does not print three lines"
+  [ "$(grep -c . "$made/out")" = 4 ] || fail "the README's snippet does not print four lines"
   while IFS= read -r line; do
     grep -qxF "    $line" README.md || fail "the README does not say what its snippet prints: $line"
   done < "$made/out"
@@ -218,7 +219,7 @@ by_pkg_config() {
   # shellcheck disable=SC2086 # the flags are several words
   quietly "the example does not build by pkg-config" \
     cc -std=c11 "${warnings[@]}" "$outside/two_ports.c" $flags -o "$made/two_ports"
-  run_example "installed, by pkg-config"
+  run_example two_ports "installed, by pkg-config"
 }
 
 by_cmake() {
@@ -239,7 +240,7 @@ END
   quietly "CMake does not find what was installed" "${words[@]}" -S "$outside" -B "$outside/build"
   quietly "the example does not build by CMake" cmake --build "$outside/build"
   cp "$outside/build/two_ports" "$made/two_ports"
-  run_example "installed, by CMake"
+  run_example two_ports "installed, by CMake"
   newer=${version%%.*}.$(($(echo "$version" | cut -d . -f 2) + 1))
   mkdir "$outside/newer"
   cat > "$outside/newer/CMakeLists.txt" << END
