@@ -24,7 +24,7 @@ HEADING = "## Every public function"
 WITHDRAWN = "crates/demands/specs/Withdrawn.antt"
 HANDED = {"`lists::refuse`"}
 # DECISIONS, "Which functions have no contract that settles their answer?": what the programs print and take their lines apart with.
-EXEMPT = {"lines", "object_lines", "message_lines", "sink_lines"}
+EXEMPT = {"lines", "object_lines", "message_lines", "sink_lines", "summary_lines"}
 COLUMNS = ("outcome", "refusals", "unread places")
 NAMES = re.compile(r"`[^`]+`(, `[^`]+`)*")
 REASON = re.compile(r"- \S.*")

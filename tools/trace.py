@@ -22,7 +22,7 @@ from pathlib import Path
 STATEMENT = "docs/STATEMENT.md"
 TRACE = "docs/TRACE.md"
 # What is behind the colon of these is words of the file; behind that of any other file it is a remark.
-CASES = re.compile(r"\w+\.txt|worked/.*|rust/tests/differential/.*|tests/c/(calls|sinks)\.c|cases")
+CASES = re.compile(r"\w+\.txt|worked/.*|rust/tests/differential/.*|tests/c/(calls|sinks|summaries)\.c|cases")
 NAME = re.compile(r"[A-Za-z_][\w-]*(::[A-Za-z_]\w*)*")
 TABLE_ROWS = re.compile(r"rows? (.+) of the table (.+)")
 
