@@ -1,6 +1,7 @@
 #!/usr/bin/env bash
 # Instructions per call, of the library and of the model: valgrind counts one pass over the inputs and two, and the difference is divided
-# by the calls of a pass. A word selects calls by name. It does not depend on what else the machine does.
+# by the calls of a pass. A word selects calls by name. It does not depend on what else the machine does. Below stand answers from a summary against
+# answers from the list, both of the library.
 set -euo pipefail
 cd "$(dirname "$0")/../rust"
 
@@ -70,3 +71,13 @@ done <<< "$table" | awk -F '|' '
     if (ratio > worst) { worst = ratio; name = $1 }
   }
   END { printf "\n%d of %d calls are within 1.10 of the model; the worst ratio is %.2f (%s).\n", within, counted, worst, name }'
+
+echo
+echo "| answered by | from the summary | from the list | summary / list |"
+echo "|---|--:|--:|--:|"
+loop=$(per_call "(loop and an empty call)" library)
+ways=$("$program" --list-ways)
+while IFS= read -r name; do
+  case "$name" in *"${1:-}"*) ;; *) continue ;; esac
+  echo "$name|$(per_call "$name" library)|$(per_call "$name" model)|$loop"
+done <<< "$ways" | awk -F '|' '{ printf "| %s | %.1f | %.1f | %.2f |\n", $1, $2 - $4, $3 - $4, ($2 - $4) / ($3 - $4) }'
