@@ -87,12 +87,15 @@ const BY_SIDE: &str = "side: Side";
 const WHOLE: [&str; 2] = ["lists::shape", "lists::shape_sink"];
 
 /// Put into their callers too: these take an object or a decoded request that the caller has just made, or make one that it takes apart.
-const OBJECTS_AND_WORDS: [&str; 5] = [
+const OBJECTS_AND_WORDS: [&str; 8] = [
     "objects::decode_sink",
     "objects::encode",
+    "requests::take_apart",
     "sinks::sink_decode",
     "summaries::answer_summary",
+    "summaries::sorted",
     "summaries::take_request",
+    "flat::flatten_request",
 ];
 
 const REPR_C: &str = "#[repr(C)]\n";

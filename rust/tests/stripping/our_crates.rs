@@ -102,9 +102,12 @@ fn functions_known_by_name() {
     for name in [
         "fn decode_sink",
         "fn encode",
+        "fn take_apart",
         "fn sink_decode",
         "fn answer_summary",
+        "fn sorted",
         "fn take_request",
+        "fn flatten_request",
         "fn shape_for",
     ] {
         assert!(always.contains(&name), "{name}");
