@@ -162,24 +162,21 @@ fn every_kind_number() {
     }
 }
 
-/// The list, the word, and what is given back.
+/// The name, the first two words of a list and its count, the request word, and what is given back.
 #[rustfmt::skip]
-const TAKEN: [(&str, [u32; 2], u8, u32, Verdict, FlatRequest); 7] = [
+const TAKEN: [(&str, [u32; 2], u8, u32, FlatTaken); 7] = [
     // Battery of 5 to 21 V and 50 W; 50 W and 50 W are asked for, which are not in what is given back.
-    ("battery with a mismatch", [0x0001_912C, 0x5A41_90C8], 2, 0x2403_20C8, verdict(0, 0), flat(1, 2, 1)),
-    ("battery without", [0x0001_912C, 0x5A41_90C8], 2, 0x2003_20C8, verdict(0, 0), flat(1, 2, 0)),
-    // The list need not have its shape: 9 V first, and a reserved bit behind it.
-    ("the shape is not looked at", [0x0002_D12C, 0xFFFF_FFFF], 2, 0x1000_0000, verdict(0, 0), flat(0, 1, 0)),
-    ("but the kind of the word is", [0x0002_D12C, 0xFFFF_FFFF], 2, 0x2000_0000, verdict(12, 2), flat(0, 0, 0)),
-    ("of the first word too", [0xD000_0000, 0], 1, 0x1000_0000, verdict(12, 1), flat(0, 0, 0)),
-    ("the count comes first", [0xFFFF_FFFF, 0], 8, 0x9000_0000, verdict(10, 0), flat(0, 0, 0)),
-    ("then the position", [0xFFFF_FFFF, 0], 1, 0x2000_0000, verdict(20, 0), flat(0, 0, 0)),
+    ("battery with a mismatch", [0x0001_912C, 0x5A41_90C8], 2, 0x2403_20C8, taken(1, 2, 1)),
+    ("battery without", [0x0001_912C, 0x5A41_90C8], 2, 0x2003_20C8, taken(1, 2, 0)),
+    // The list need not have its shape: 9 V first, and a word of no kind behind it.
+    ("the shape is not looked at", [0x0002_D12C, 0xFFFF_FFFF], 2, 0x1000_0000, taken(0, 1, 0)),
+    ("but the kind of the word is", [0x0002_D12C, 0xFFFF_FFFF], 2, 0x2000_0000, refused(12, 2)),
+    ("of the first word too", [0xD000_0000, 0], 1, 0x1000_0000, refused(12, 1)),
+    ("the count comes first", [0xFFFF_FFFF, 0], 8, 0x9000_0000, refused(10, 0)),
+    ("then the position", [0xFFFF_FFFF, 0], 1, 0x2000_0000, refused(20, 0)),
 ];
 
-const fn verdict(number: u8, place: u8) -> Verdict {
-    Verdict { number, place }
-}
-
+/// All figures are zero.
 const fn flat(kind: u8, position: u8, mismatch: u8) -> FlatRequest {
     FlatRequest {
         kind,
@@ -193,15 +190,30 @@ const fn flat(kind: u8, position: u8, mismatch: u8) -> FlatRequest {
     }
 }
 
+const fn taken(kind: u8, position: u8, mismatch: u8) -> FlatTaken {
+    FlatTaken {
+        verdict: Verdict {
+            number: 0,
+            place: 0,
+        },
+        request: flat(kind, position, mismatch),
+    }
+}
+
+const fn refused(number: u8, place: u8) -> FlatTaken {
+    FlatTaken {
+        verdict: Verdict { number, place },
+        request: flat(0, 0, 0),
+    }
+}
+
 #[test]
 fn requests_decoded() {
-    for (name, first, count, word, verdict, request) in TAKEN {
-        let [a, b] = first;
+    for (name, [first, second], count, word, wanted) in TAKEN {
         let list = Words {
-            words: [a, b, 0, 0, 0, 0, 0],
+            words: [first, second, 0, 0, 0, 0, 0],
             count,
         };
-        let taken = board::arin_take_request(list, word);
-        assert_eq!(taken, FlatTaken { verdict, request }, "{name}");
+        assert_eq!(board::arin_take_request(list, word), wanted, "{name}");
     }
 }
