@@ -28,7 +28,8 @@ opt-level s or at the one given (s, z, 1, 2, 3), and prints for each call
     seven objects in every mix; eight ports that are all in use);
   - divisions: calls of __aeabi_uidiv and __aeabi_uidivmod, counted by wrapping
     them at link time; the instructions in them are in the figures above;
-and the divisions of the rule check of seven objects, the most that a list has.
+and what an answer from a summary takes of one from the list, and the divisions
+of the rule check of seven objects, the most that a list has.
 Every answer to those inputs is held to this machine's. It needs what tools/board_tests.sh needs.
 END
     exit 0
