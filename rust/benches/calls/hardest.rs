@@ -258,7 +258,12 @@ pub fn answers() -> Vec<(Words, u32)> {
 
 /// The same from summaries, a battery's too, which are refused.
 pub fn flat_summary_answers() -> Vec<(Summary, FlatRequest)> {
-    let flat = |(list, word)| (summarize(list).summary, flat_take_request(list, word).request);
+    let flat = |(list, word)| {
+        (
+            summarize(list).summary,
+            flat_take_request(list, word).request,
+        )
+    };
     answers().into_iter().map(flat).collect()
 }
 

@@ -53,9 +53,7 @@ pub fn of_seven() -> Vec<Asked> {
     let seven = hardest::answers()
         .into_iter()
         .filter(|(list, _)| list.count == 7);
-    seven
-        .filter_map(|(list, word)| asked(list, word))
-        .collect()
+    seven.filter_map(|(list, word)| asked(list, word)).collect()
 }
 
 /// One in sixteen has a limit, a count or a position of any number.

@@ -49,7 +49,10 @@ pub fn all() -> Vec<Row> {
 
 type Answer = fn(Words, u32) -> Verdict;
 
-fn against_the_list(inputs: Vec<Asked>, quick: impl Fn(&Asked) -> Verdict + Copy + 'static) -> Call {
+fn against_the_list(
+    inputs: Vec<Asked>,
+    quick: impl Fn(&Asked) -> Verdict + Copy + 'static,
+) -> Call {
     let answer: Answer = black_box(library::answer);
     two_ways(inputs, quick, move |a| answer(a.list, a.word))
 }

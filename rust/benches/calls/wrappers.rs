@@ -95,8 +95,8 @@ pub mod plain {
     use model::{
         Asked, DecodedRequest, FlatObject, FlatObjects, FlatReading, FlatRequest, FlatTaken,
         Listing, Message, MessageReading, Object, Objects, Profile, Profiled, Reading,
-        RemainingPower, Row, Side, SinkObject, SinkObjects, SinkReading, Summarized, Summary, Taken,
-        Verdict, Words, Written,
+        RemainingPower, Row, Side, SinkObject, SinkObjects, SinkReading, Summarized, Summary,
+        Taken, Verdict, Words, Written,
     };
 
     wrap! {

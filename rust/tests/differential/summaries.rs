@@ -77,11 +77,14 @@ fn accepted(summary: &Summary, request: &model::DecodedRequest) -> &'static str 
     let row = summary.rows[usize::from(request.position) - 1];
     let by_above = |current: u16| u32::from(row[2]) < 50 * u32::from(current);
     match request.figures {
-        Figures::Pps { volts: 750, current } | Figures::Avs { volts: 600, current }
-            if by_above(current) =>
-        {
-            CASES[4]
+        Figures::Pps {
+            volts: 750,
+            current,
         }
+        | Figures::Avs {
+            volts: 600,
+            current,
+        } if by_above(current) => CASES[4],
         Figures::Fixed { .. } => CASES[0],
         Figures::Variable { .. } => CASES[1],
         Figures::Pps { .. } => CASES[2],

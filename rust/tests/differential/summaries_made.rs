@@ -104,7 +104,15 @@ pub fn request(random: &mut Random, summary: &Summary) -> DecodedRequest {
     let at = random.below(usize::from(summary.count.clamp(1, 7)));
     DecodedRequest {
         position: match random.below(16) {
-            0 => random.pick(&[0, 1, summary.count, summary.count.wrapping_add(1), 7, 8, 255]),
+            0 => random.pick(&[
+                0,
+                1,
+                summary.count,
+                summary.count.wrapping_add(1),
+                7,
+                8,
+                255,
+            ]),
             _ => at as u8 + 1,
         },
         mismatch: random.one_in(4),
