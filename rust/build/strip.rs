@@ -83,8 +83,9 @@ const INLINE_NEVER: &str = "#[inline(never)]\n";
 /// A function that is given the side of a list is put into its callers, which know the side: rustc then makes one of it for each side.
 const BY_SIDE: &str = "side: Side";
 
-/// The shape check of each side, whole: in the midst of its callers it makes them longer and slower.
-const WHOLE: [&str; 2] = ["lists::shape", "lists::shape_sink"];
+/// Kept whole: in the midst of its callers the shape check of each side makes them longer and slower, and a row of a summary is read there
+/// from a copy of all seven.
+const WHOLE: [&str; 3] = ["lists::shape", "lists::shape_sink", "summaries::row_at"];
 
 /// Put into their callers too: these take an object or a decoded request that the caller has just made, or make one that it takes apart.
 const OBJECTS_AND_WORDS: [&str; 8] = [

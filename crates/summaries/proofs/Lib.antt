@@ -1,6 +1,7 @@
 pub mod Data
 pub mod Cells
 pub mod Values
+pub mod Elements
 pub mod Rows
 pub mod NarrowFigures
 pub mod Makings

@@ -14,8 +14,11 @@ use Rattle.summaries.specs.declared.Summary.{Summary}
 use Rattle.summaries.specs.Summaries.{summaryWith}
 use Rattle.summaries.proofs.Data.{Data, number, array, struct, IsA}
 
+abbrev pub limits : Data
+limits = array (number w16) 4
+
 abbrev pub rows : Data
-rows = array (array (number w16) 4) 7
+rows = array limits 7
 
 abbrev pub summary : Data
 summary = struct s.the-type s′.the-laws s′.the-copy s′.the-plain

@@ -16,7 +16,7 @@ use crate::LOWEST;
 use crate::QuickAsked;
 use crate::QuickRequest;
 use crate::Summary;
-use crate::holding::rows_of;
+use crate::holding::row_at;
 use steps::Ma10;
 use steps::Ma50;
 use steps::Mv20;
@@ -151,9 +151,8 @@ pub fn answer_summary(summary: Summary, asked: QuickAsked) -> Verdict
     if count < named {
         return placeless(verdicts::POSITION);
     }
-    let rows = rows_of(summary);
     let at = (named - 1) as usize;
-    let limits = rows[at];
+    let limits = row_at(summary, at);
     let request = asked.request;
     judge_row(limits, asked.mismatch, request)
 }

@@ -1,5 +1,8 @@
-// A summary put together and taken apart. A field that is an array of arrays is walked by hand, so these two are all that touch it.
+// A summary put together and taken apart. A field that is an array of arrays is walked by hand, so these three are all that touch it.
 ghost use mathlib.Core.Path.{_≡_};
+ghost use mathlib.Core.List.{[]};
+ghost use Prim.Native.Nat.{_<_};
+ghost use lib.ListN.{getD};
 ghost use Rattle.summaries.specs.Summaries.{summaryWith};
 ghost use Rattle.summaries.specs.Promises.{HasRows};
 use crate::Summary;
@@ -16,4 +19,12 @@ pub fn rows_of(summary: Summary) -> [[u16; 4]; 7]
     ensures { λ r. ⌜ HasRows summary r ⌝ }
 {
     summary.rows
+}
+
+// One of the seven rows, without a copy of the others.
+pub(crate) fn row_at(summary: Summary, at: usize) -> [u16; 4]
+    requires { ⌜ at < 7 ⌝ }
+    ensures { λ r. ⌜ r ≡ getD (summary .rows) at [] ⌝ }
+{
+    summary.rows[at]
 }

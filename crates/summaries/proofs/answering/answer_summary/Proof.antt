@@ -3,9 +3,8 @@
 use Rattle.summaries.proofs.Answers.{too-many-rows, misplaced, by-row}
 use Rattle.summaries.specs.Answering.{judgedBy}
 use Rattle.requests.proofs.Answers.{position-zero, position-past, position-good}
-use lib.ListN.{getD}
-use Prim.Native.Nat.{ℕ, _-_}
-use mathlib.Core.List.{List, []}
+use Prim.Native.Nat.{ℕ}
+use mathlib.Core.List.{List}
 use mathlib.Core.Path.{ap, sym, _∙_}
 use borrow.Author.Needs.{needs}
 use Rattle.summaries.proofs.answering.answer_summary.Statement.{statement}
@@ -36,28 +35,22 @@ returns-3 c =
     c .placeless3 .ensures
     ∙ sym (misplaced (x .summary) (x .asked) (c .before .before .before .if1 .left) (position-past _ _ (c .before .before .if2 .left) (c .before .if3 .taken)))
 
-rows-of-requires : tie.Need-rows-of-requires
-rows-of-requires c κs = search needs
-
 cast-at : tie.Need-cast-at
 cast-at c = search needs
 
-mul-limits : tie.Need-mul-limits
-mul-limits c = search needs
-
-array-copy-out-limits : tie.Need-array-copy-out-limits
-array-copy-out-limits c = search needs
+row-at-requires : tie.Need-row-at-requires
+row-at-requires c κs = search needs
 
 judge-row-requires : tie.Need-judge-row-requires
 judge-row-requires c κs = search needs
 
 returns-4 : tie.Need-returns-4
 returns-4 c =
-    let x = c .before .before .before .before .before .before .args in
-    let good = position-good _ _ (c .before .before .before .before .if2 .left) (c .before .before .before .if3 .left) in
+    let x = c .before .before .before .before .before .args in
+    let good = position-good _ _ (c .before .before .before .if2 .left) (c .before .before .if3 .left) in
     c .judge-row .ensures
-    ∙ ap (λ (rs : List (List ℕ)). judgedBy (getD rs (x .asked .position - 1) []) (x .asked .mismatch) (x .asked .request)) (c .before .before .rows-of .ensures)
-    ∙ sym (by-row (x .summary) (x .asked) (c .before .before .before .before .before .if1 .left) good)
+    ∙ ap (λ (ls : List ℕ). judgedBy ls (x .asked .mismatch) (x .asked .request)) (c .before .row-at .ensures)
+    ∙ sym (by-row (x .summary) (x .asked) (c .before .before .before .before .if1 .left) good)
 
 pub answer-summary-spec : {M : Type 1} → statement M
 answer-summary-spec =
@@ -69,9 +62,7 @@ answer-summary-spec =
     returns-2
     placeless-requires-3
     returns-3
-    rows-of-requires
     cast-at
-    mul-limits
-    array-copy-out-limits
+    row-at-requires
     judge-row-requires
     returns-4)
