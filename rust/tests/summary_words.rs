@@ -1,9 +1,12 @@
-//! Every request word, reserved bits aside, to some lists: the answer from the summary is the answer from the list, and both are the model's.
+//! Every request word to some lists, but for bits that do not count there: the answer from the summary is the model's answer from the list. And
+//! summaries of any rows, by hand.
 
 mod common;
 
 use arinduleu::board;
-use arinduleu::summaries::{answer_summary, summarize, take_request, TakenRequest};
+use arinduleu::steps::{Ma50, Mv25};
+use arinduleu::summaries::{answer_summary, rows_of, summarize, take_request};
+use arinduleu::summaries::{QuickAsked, QuickRequest, Summary, TakenRequest};
 use common::convert::{ToLibrary, ToModel};
 use model::{Profile, Verdict, Words};
 
@@ -138,9 +141,9 @@ fn add(a: [u64; 32], b: [u64; 32]) -> [u64; 32] {
     std::array::from_fn(|n| a[n] + b[n])
 }
 
-/// Reserved bits are ignored: with all of them set the answer is the same, and so is what is decoded.
+/// Bits that are reserved or not examined are ignored: with all of them set the answer is the same, and so is what is decoded.
 #[test]
-fn reserved_bits_change_nothing() {
+fn ignored_bits_change_nothing() {
     let list = built(130, 500);
     for (kind, free) in [(0xE, 0x0BE0_0180), (0xC, 0x0BE0_0180), (0x0, 0x0BF0_0000)] {
         for place in places(&list, kind) {
@@ -155,4 +158,30 @@ fn reserved_bits_change_nothing() {
             }
         }
     }
+}
+
+/// A summary with a row past its count that is not zero: the rows are given as they stand, and no request to that row is answered by it.
+#[test]
+fn rows_past_the_count() {
+    let summary = Summary {
+        count: 1,
+        rows: [[9000, 20000, 3000, 3250]; 7],
+    };
+    assert_eq!(rows_of(summary), summary.rows);
+    // 15.05 V and far too much: 23 and 24 would apply at position 1, and 20 comes before them.
+    let request = QuickRequest::Avs {
+        volts: Mv25(602),
+        current: Ma50(65535),
+    };
+    let asked = |position| QuickAsked {
+        position,
+        mismatch: false,
+        request,
+    };
+    let numbers = [0, 1, 2, 7, 8, 255].map(|p| answer_summary(summary, asked(p)).number);
+    assert_eq!(numbers, [20, 23, 20, 20, 20, 20]);
+    // A count above 7 comes before the position.
+    let summary = Summary { count: 8, ..summary };
+    let numbers = [0, 1, 8, 9].map(|p| answer_summary(summary, asked(p)).number);
+    assert_eq!(numbers, [10; 4]);
 }

@@ -257,7 +257,7 @@ static void taking(void)
     CHECK(takes(list_l(), 0x40051545, r));
     r.mismatch = 1;
     CHECK(takes(list_l(), 0x44051545, r));
-    /* Reserved bits: 27, 25..22, 21 and 20. */
+    /* Bits that are reserved, 27, 21 and 20, or not examined, 25..22. */
     CHECK(takes(list_l(), 0x4FF51545, r));
 
     r = no_request(ARIN_KIND_VARIABLE, 3, 1);

@@ -1,9 +1,11 @@
 -- Proves the claims of specs/SummaryUnread.antt.
 -- Assumes nothing.
-use mathlib.Core.Path.{_≡_, sym, _∙_}
+use mathlib.Core.Path.{_≡_, sym, ap, _∙_, subst}
 use Rattle.summaries.proofs.Unread.{summary-unread, taken-by-one, answered-by-one}
-use Rattle.flat.proofs.Requests.{flat-taken-by-one, flat-answered-by-one}
-use Rattle.demands.specs.SummaryUnread.{SummarizeDoesNotLook, ArinSummarizeDoesNotLook, TakeRequestLooksAtOne, FlatTakeRequestLooksAtOne, ArinTakeRequestLooksAtOne, AnswerSummaryLooksAtOne, FlatAnswerSummaryLooksAtOne, ArinAnswerSummaryLooksAtOne}
+use Rattle.flat.specs.declared.FlatTaken.{FlatTaken}
+use Rattle.flat.specs.Requesting.{flatAnsweredOf, ownRequest}
+use Rattle.flat.proofs.Requests.{flat-taken-by-one, flat-answered-by-one, flat-answered-by-own, flat-taken-own}
+use Rattle.demands.specs.SummaryUnread.{SummarizeDoesNotLook, ArinSummarizeDoesNotLook, TakeRequestLooksAtOne, FlatTakeRequestLooksAtOne, ArinTakeRequestLooksAtOne, AnswerSummaryLooksAtOne, FlatAnswerSummaryLooksAtOne, ArinAnswerSummaryLooksAtOne, ArinAnswerSummaryOwnFields, ArinTakeRequestOwnFields}
 
 -- ---- lists
 
@@ -32,3 +34,12 @@ flat-answer-summary-looks-at-one s t x same r v e f = e ∙ flat-answered-by-one
 
 pub arin-answer-summary-looks-at-one : ArinAnswerSummaryLooksAtOne
 arin-answer-summary-looks-at-one s t x same r v e f = e ∙ flat-answered-by-one s t x (same .count) (same .row) ∙ sym f
+
+-- ---- the struct of C
+
+pub arin-answer-summary-own-fields : ArinAnswerSummaryOwnFields
+arin-answer-summary-own-fields s x y same r v e f =
+    e ∙ sym (flat-answered-by-own s x) ∙ ap (flatAnsweredOf s) same ∙ flat-answered-by-own s y ∙ sym f
+
+pub arin-take-request-own-fields : ArinTakeRequestOwnFields
+arin-take-request-own-fields l w t e = subst (λ (x : FlatTaken). ownRequest (x .request) ≡ x .request) (sym e) (flat-taken-own l w)

@@ -1,6 +1,6 @@
 -- What the calls over summaries do not look at. Of a list places past the count (docs/STATEMENT.md, "Lists in hand"), and decoding "looks at the
 -- count of the list and at the word that is named, at nothing else" ("Decoded requests"). Of a summary rows past the count, and every row but that
--- of the position. Each claim is proved by the theorem of its name in small letters in proofs/SummaryUnread.antt.
+-- of the position; of the struct of C the fields that its kind does not have. Each claim is proved by the theorem of its name in small letters in proofs/SummaryUnread.antt.
 -- `AgreeWords` (lists, specs/Unread): the same count, and the same up to it.
 -- Assumes nothing.
 use mathlib.Core.Path.{_≡_}
@@ -17,6 +17,7 @@ use Rattle.summaries.specs.declared.TakenRequest.{TakenRequest}
 use Rattle.summaries.specs.Answering.{rowOf}
 use Rattle.flat.specs.declared.FlatRequest.{FlatRequest}
 use Rattle.flat.specs.declared.FlatTaken.{FlatTaken}
+use Rattle.flat.specs.Requesting.{ownRequest}
 use Rattle.demands.specs.SummaryContracts.{SummarizeAnswers, TakeRequestAnswers, AnswerSummaryAnswers, FlatTakeRequestAnswers, FlatAnswerSummaryAnswers, ArinSummarizeAnswers, ArinTakeRequestAnswers, ArinAnswerSummaryAnswers}
 
 -- ---- lists
@@ -64,3 +65,15 @@ abbrev pub ArinAnswerSummaryLooksAtOne : Type 0
 ArinAnswerSummaryLooksAtOne =
     (s t : Summary) (x : FlatRequest) → SameRow s t (x .position)
     → (r v : Verdict) → ArinAnswerSummaryAnswers s x r → ArinAnswerSummaryAnswers t x v → r ≡ v
+
+-- ---- the struct of C
+
+-- "Fields that the kind does not have are not looked at": flat requests that differ in those alone get the same answer
+abbrev pub ArinAnswerSummaryOwnFields : Type 0
+ArinAnswerSummaryOwnFields =
+    (s : Summary) (x y : FlatRequest) → ownRequest x ≡ ownRequest y
+    → (r v : Verdict) → ArinAnswerSummaryAnswers s x r → ArinAnswerSummaryAnswers s y v → r ≡ v
+
+-- ".. and are zero in what is given back"
+abbrev pub ArinTakeRequestOwnFields : Type 0
+ArinTakeRequestOwnFields = (l : Words) (w : ℕ) (t : FlatTaken) → ArinTakeRequestAnswers l w t → ownRequest (t .request) ≡ t .request

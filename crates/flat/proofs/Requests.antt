@@ -1,12 +1,13 @@
 -- Decoded requests as C has them: which kind numbers have one, and the answer by way of it.
 -- Assumes nothing.
-use mathlib.Core.Path.{_≡_, refl, sym, ap, ap₂, _∙_}
+use mathlib.Core.Path.{_≡_, refl, sym, ap, ap₂, _∙_, subst}
 use mathlib.Core.Bool.{Bool, true, false, not}
 use mathlib.Core.List.{List, _∷_}
 use Prim.Native.Nat.{ℕ, zero, suc}
 use lib.Dec.{ltb, eqb}
 use native.Mathlib.Omega.{arith}
 use borrow.Author.Tests.{ne-eqb}
+use Rattle.verdicts.specs.declared.Verdict.{Verdict}
 use Rattle.verdicts.specs.Refusals.{Refusal, refusal, verdict, success, verdictOf}
 use Rattle.verdicts.proofs.First.{numbered, hit, miss}
 use Rattle.lists.specs.declared.Words.{Words}
@@ -23,7 +24,7 @@ use Rattle.flat.specs.declared.FlatRequest.{FlatRequest}
 use Rattle.flat.specs.declared.FlatTaken.{FlatTaken}
 use Rattle.flat.specs.declared.requesting.RaisedRequest.{RaisedRequest}
 use Rattle.flat.specs.declared.requesting.RaisedRequest.the-variants.{Known, Unknown}
-use Rattle.flat.specs.Requesting.{bitOf, flatRequestBy, flatRequestOf, flatTakenBy, flatTakenOf, raisedRequestBy, raisedRequestOf, askedOf, hasNone, flatAnswerRefusals, flatAnsweredOf}
+use Rattle.flat.specs.Requesting.{bitOf, flatRequestBy, flatRequestOf, flatTakenBy, flatTakenOf, raisedRequestBy, raisedRequestOf, askedOf, hasNone, flatAnswerRefusals, flatAnsweredOf, ownRequestBy, ownRequest}
 
 -- whether an answer is a decoded request
 abbrev isUnknown : RaisedRequest → Bool
@@ -142,3 +143,45 @@ flat-answered-by-one s t x e f =
     ∷ refusal (ltb 7 n) 10 0
     ∷ refusal (badPosition n (a .position)) 20 0
     ∷ rowRefusals ls (a .mismatch) (a .request))) e (ap (rowOf s) (position-of x) ∙ f ∙ sym (ap (rowOf t) (position-of x)))
+
+-- .. and of the fields those of the kind alone
+abbrev answeredRaised : Summary → RaisedRequest → Verdict
+answeredRaised s (Known a) = answeredBy s a
+answeredRaised s Unknown = verdict 12 0
+
+by-raised : (s : Summary) (x : FlatRequest) → flatAnsweredOf s x ≡ answeredRaised s (raisedRequestOf x)
+by-raised s x = go (raisedRequestOf x) refl where
+  go : (r : RaisedRequest) → raisedRequestOf x ≡ r → flatAnsweredOf s x ≡ answeredRaised s r
+  go (Known a) e = by-decoded-request s x a e
+  go Unknown e = no-decoded-request s x e
+
+own-by : (k : ℕ) (x : FlatRequest) → x .kind ≡ k → raisedRequestBy (ownRequestBy k x .kind) (ownRequestBy k x) ≡ raisedRequestBy k x
+own-by zero x e = refl
+own-by (suc zero) x e = refl
+own-by (suc (suc zero)) x e = refl
+own-by (suc (suc (suc zero))) x e = refl
+own-by (suc (suc (suc (suc zero)))) x e = refl
+own-by (suc (suc (suc (suc (suc k))))) x e = ap (λ (n : ℕ). raisedRequestBy n x) e
+
+own-raised : (x : FlatRequest) → raisedRequestOf (ownRequest x) ≡ raisedRequestOf x
+unfolding raisedRequestOf
+own-raised x = own-by (x .kind) x refl
+
+pub flat-answered-by-own : (s : Summary) (x : FlatRequest) → flatAnsweredOf s (ownRequest x) ≡ flatAnsweredOf s x
+flat-answered-by-own s x = by-raised s (ownRequest x) ∙ ap (answeredRaised s) (own-raised x) ∙ sym (by-raised s x)
+
+-- what decoding gives has the fields of its kind alone
+own-request : (p b : ℕ) (r : QuickRequest) → ownRequest (flatRequestBy p b r) ≡ flatRequestBy p b r
+own-request p b (Fixed o x) = refl
+own-request p b (Variable o x) = refl
+own-request p b (Pps v a) = refl
+own-request p b (Avs v a) = refl
+
+own-taken : (t : TakenRequest) → ownRequest (flatTakenBy t .request) ≡ flatTakenBy t .request
+unfolding flatRequestOf
+own-taken (Refused v) = refl
+own-taken (Battery p m) = refl
+own-taken (Quick a) = own-request (a .position) (bitOf (a .mismatch)) (a .request)
+
+pub flat-taken-own : (l : Words) (w : ℕ) → ownRequest (flatTakenOf l w .request) ≡ flatTakenOf l w .request
+flat-taken-own l w = subst (λ (x : FlatTaken). ownRequest (x .request) ≡ x .request) (sym (flat-taken l w)) (own-taken (takenOf l w))

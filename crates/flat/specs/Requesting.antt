@@ -111,3 +111,17 @@ flatAnswerRefusals s x = refusal (hasNone (x .kind)) 12 0 ∷ summaryRefusals s 
 
 unfoldable pub flatAnsweredOf : Summary → FlatRequest → Verdict
 flatAnsweredOf s x = verdictOf (flatAnswerRefusals s x)
+
+-- ---- no contract cites these
+
+-- a flat request with the fields of its kind alone: the others are zero
+abbrev pub ownRequestBy : ℕ → FlatRequest → FlatRequest
+ownRequestBy zero x = flatCurrents 0 (x .position) (x .mismatch) (x .operating) (x .maximum)
+ownRequestBy (suc zero) x = flatCurrents 1 (x .position) (x .mismatch) noMa10 noMa10
+ownRequestBy (suc (suc zero)) x = flatCurrents 2 (x .position) (x .mismatch) (x .operating) (x .maximum)
+ownRequestBy (suc (suc (suc zero))) x = flatIn20mV 3 (x .position) (x .mismatch) (x .volts20) (x .current50)
+ownRequestBy (suc (suc (suc (suc zero)))) x = flatIn25mV 4 (x .position) (x .mismatch) (x .volts25) (x .current50)
+ownRequestBy (suc (suc (suc (suc (suc k))))) x = x
+
+abbrev pub ownRequest : FlatRequest → FlatRequest
+ownRequest x = ownRequestBy (x .kind) x

@@ -176,7 +176,7 @@ pub fn raise_request(flat: &FlatRequest) -> Option<DecodedRequest> {
 }
 
 /// As `take_request`, without a decoded request in between. For a battery object "the kind, the
-/// position and bit 26 are given back, and both figures are zero".
+/// position and bit 26 are given back, and all else is zero".
 pub fn flat_take_request(list: &Words, word: u32) -> FlatTaken {
     let kind = match named_kind(list, position(word)) {
         Ok(kind) => kind,

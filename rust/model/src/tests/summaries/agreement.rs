@@ -1,6 +1,7 @@
 //! "For every list that has its shape, and every request word that is decoded for an object of it,
 //! the answer from the summary of the list is the answer from the list, number and place. Where the
-//! position is outside the count both are 20, and so is decoding."
+//! position of a request word is outside the count, the answer from the list is 20, decoding gives
+//! 20, and every decoded request with that position gets 20 from the summary."
 
 use super::*;
 

@@ -1,5 +1,5 @@
-//! "A summary may hold any numbers. The row of the position is taken as it stands, whatever object
-//! it was made from". A decoded request may hold any numbers too.
+//! "A summary may hold any numbers, and so may a decoded request. The row of the position is taken
+//! as it stands, whatever object it was made from".
 
 use super::*;
 
