@@ -40,7 +40,7 @@ static void show_row(const uint16_t row[4])
         print_thousandths(row[ARIN_HIGHEST], "V");
     }
     if (row[ARIN_BELOW_15_V] == 0 && row[ARIN_ABOVE_15_V] == 0) {
-        /* A battery is a power, which a summary does not have. */
+        /* A battery is a power, which a summary does not have; and a supply of no current has nothing to show either. */
         printf("\n");
         return;
     }
@@ -61,7 +61,7 @@ static void show_list(void)
     }
 }
 
-/* What arin_answer gives, without a look at the list but for the kind of the object, and where that is a battery. */
+/* What arin_answer gives, for a list that has a summary: without a look at the list but for the kind of the object, and where that is a battery. */
 static struct arin_verdict answer(uint32_t word)
 {
     struct arin_flat_taken t = arin_take_request(list, word);
@@ -84,7 +84,7 @@ static void show_request(const char *what, uint32_t word)
         print_refusal(v);
 }
 
-/* A knob is turned through the voltages of AVS, and the current stays: one request that was decoded once, with its voltage changed. */
+/* A knob is turned through the voltages of AVS, and the current stays: one request, put together by hand, with its voltage changed. */
 static void turn_knob(uint8_t position, uint16_t from, uint16_t to, uint16_t current)
 {
     struct arin_flat_request request = { ARIN_KIND_AVS, position, 0, 0, 0, 0, 0, 0 };

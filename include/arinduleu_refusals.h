@@ -22,10 +22,10 @@ enum arin_refusal {
     /* An input record of the program caps. No call gives it. */
     ARIN_RECORD_SHORT = 9,
 
-    /* The shape of a list. The place of 11 to 17 is the word. */
-    ARIN_COUNT = 10,               /* count not 1..7 */
+    /* The shape of a list. The place of 11 to 17 is the word; of 12 from arin_answer_summary it is 0. */
+    ARIN_COUNT = 10,               /* count not 1..7; that of a summary above 7 */
     ARIN_FIRST_NOT_FIXED_5_V = 11, /* first object not fixed 5 V */
-    ARIN_KIND_NOT_ALLOWED = 12,    /* no kind of an SPR list; in that of a sink AVS too */
+    ARIN_KIND_NOT_ALLOWED = 12,    /* no kind of an SPR list; in that of a sink AVS too; for a summary battery too */
     ARIN_RESERVED_BIT = 13,        /* reserved bit set in an object */
     ARIN_ORDER = 14,               /* order of the objects, or a second AVS */
     ARIN_VOLTAGE_BOUND = 15,       /* fixed above 20 V; battery, variable or PPS above 21 V, or minimum above maximum */

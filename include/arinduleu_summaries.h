@@ -48,7 +48,8 @@ struct arin_summarized {
 struct arin_flat_request {
     uint8_t kind;       /* one of arin_kind; a request to a battery is for arin_answer, and has no figure here */
     uint8_t position;   /* the place of the object, from 1; 0 on a refusal */
-    uint8_t mismatch;   /* capability mismatch, bit 26: 0 or 1 as it is given out; taken in, each number but 0 is set */
+    uint8_t mismatch;   /* capability mismatch, bit 26, of every kind: 0 or 1 as it is given out; taken in, each number but 0 is set.
+                           Of PPS and AVS it does not count */
     uint16_t operating; /* fixed and variable: operating current, 10 mA */
     uint16_t maximum;   /* fixed and variable: maximum operating current, 10 mA */
     uint16_t volts20;   /* PPS: voltage, 20 mV */
@@ -76,8 +77,9 @@ ARIN_MUST_USE struct arin_flat_taken arin_take_request(struct arin_words list, u
 
 /*
  * Whether a request that was taken apart may be accepted, by the summary of the list that was advertised: number 0 where it may. A
- * summary may hold any numbers. Its row at the position is taken as it stands, whatever object it was made from.
- * Refusals: 12 (the kind is none of fixed, variable, PPS and AVS), 10 (the count is above 7), 20, 23, 22, 24, 25.
+ * summary may hold any numbers. Its row at the position is taken as it stands, whatever object it was made from: so take the request
+ * apart with the list that the summary is of. It knows nothing of other ports: where ports share, arin_request judges.
+ * Refusals, all with place 0: 12 (the kind is none of fixed, variable, PPS and AVS), 10 (the count is above 7), 20, 23, 22, 24, 25.
  */
 ARIN_MUST_USE struct arin_verdict arin_answer_summary(struct arin_summary summary, struct arin_flat_request request);
 

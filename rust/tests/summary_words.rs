@@ -112,7 +112,7 @@ fn every_pps_word_of_some_lists() {
         }
     }
     println!("{objects} PPS objects, {numbers:?}");
-    assert!(objects >= 8);
+    assert_eq!(objects, 11);
     assert!([0, 22, 24].iter().all(|n| numbers[*n] > 1000));
 }
 
@@ -147,7 +147,7 @@ fn ignored_bits_change_nothing() {
     let list = built(130, 500);
     for (kind, free) in [(0xE, 0x0BE0_0180), (0xC, 0x0BE0_0180), (0x0, 0x0BF0_0000)] {
         for place in places(&list, kind) {
-            for figures in (0..1 << 20).step_by(997) {
+            for figures in (0..1 << 21).step_by(997) {
                 let word = place << 28 | (figures & !free);
                 let words = list.library();
                 let [without, with] =

@@ -193,7 +193,10 @@ static void built_lists(void)
     set_row(&s, 5, 5000, 11000, 3000, 3000);
     set_row(&s, 6, 5000, 16000, 2400, 2400);
     CHECK(sums_up(list_36_w(), s));
-    CHECK(sums_up(arin_build(arin_default_profile(1).profile).list, arin_summarize(words(1, 0x0001900A, 0, 0, 0, 0, 0)).summary));
+    s = no_summary();
+    s.count = 1;
+    set_row(&s, 1, 5000, 5000, 100, 100);
+    CHECK(sums_up(arin_build(arin_default_profile(1).profile).list, s));
 }
 
 static void each_kind(void)

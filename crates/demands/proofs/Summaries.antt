@@ -3,7 +3,7 @@
 use mathlib.Core.Path.{_≡_, refl, sym, ap, _∙_, subst}
 use mathlib.Core.Bool.{Bool, true, false}
 use mathlib.Core.Logic.{_↔_, _⊎_, inl, inr}
-use mathlib.Core.List.{List}
+use mathlib.Core.List.{List, []}
 use Prim.Native.Nat.{ℕ, _*_, _%_, _≤_, _<_, max}
 use native.Mathlib.Omega.{arith}
 use lib.Dec.{leb}
@@ -22,7 +22,7 @@ use Rattle.objects.proofs.Saying.{decoded-is}
 use Rattle.lists.specs.declared.Words.{Words}
 use Rattle.lists.specs.declared.Listing.{Listing}
 use Rattle.lists.specs.Shape.{shapeRefusals, shapeFor, shapeOf}
-use Rattle.lists.proofs.Sevens.{past-filled}
+use Rattle.lists.proofs.Sevens.{at-blank, seven-long}
 use Rattle.verdicts.proofs.First.{all-missed}
 use Rattle.rules.specs.declared.Profile.{Profile}
 use Rattle.rules.specs.Building.{builtWords}
@@ -46,11 +46,11 @@ use Rattle.summaries.proofs.Judgings.{range-over, range-allowed, avs-by-range}
 use Rattle.summaries.proofs.Answers.{by-row}
 use Rattle.summaries.proofs.Agreement.{row-at, placed-alike, alike, refused-20, list-20, taking-20, summary-20}
 use Rattle.flat.specs.declared.FlatTaken.{FlatTaken}
-use Rattle.flat.specs.Requesting.{flatTakenBy, flatRequestOf, flatAnsweredOf}
+use Rattle.flat.specs.Requesting.{takenAs, flatTakenBy, flatRequestOf, flatAnsweredOf}
 use Rattle.flat.proofs.Requests.{flat-taken, request-again, by-decoded-request}
 use Rattle.demands.specs.CallContracts.{DecodeAnswers, ShapeAnswers, BuildAnswers, TakeApartAnswers, AnswerAnswers}
 use Rattle.demands.specs.SummaryContracts.{SummarizeAnswers}
-use Rattle.demands.specs.Summaries.{SaysOf, SummaryRowByRow, BuiltRowByRow, IsBattery, DecodedAs, DecodedForTheKind, SummaryAgrees, TakenApartAgrees, OutsideIs20, BuiltAgrees, ArinSummaryAgrees, SummaryAt15V}
+use Rattle.demands.specs.Summaries.{SaysOf, SummaryRowByRow, BuiltRowByRow, IsBattery, DecodedAs, DecodedForTheKind, flatFor, ArinDecodedForTheKind, SummaryAgrees, TakenApartAgrees, OutsideIs20, BuiltAgrees, ArinSummaryAgrees, SummaryAt15V}
 use Rattle.demands.proofs.PowerRules.{built-clear, built-list}
 
 -- ---- what is had of the contracts
@@ -78,7 +78,8 @@ summary-row-by-row l e r is =
       subst (λ (x : Summarized). SaysOf l (x .summary)) (sym m) (record {
         count = refl;
         row = λ position inside o d. row-at l good position inside ∙ ap limitsIn (sym (decoded-is _ (Known o) d));
-        past = λ k h. past-filled (limitsAt (l .words)) noLimits (l .count) k h;
+        past = λ k h below. at-blank (limitsAt (l .words)) noLimits [] (l .count) k h below;
+        seven = seven-long (limitsAt (l .words)) noLimits (l .count);
       }),
     )
 
@@ -100,6 +101,19 @@ decoded-for-the-kind l w counted inside o d t is =
     subst (λ (x : TakenRequest). (IsBattery o × (x ≡ Battery (positionOf w) (mismatchOf w))) ⊎ DecodedAs o w x)
     (sym (is ∙ of-object l w counted inside o (sym (decoded-is _ (Known o) d)))) (by-kind o w)
 
+flat-by-kind : (o : Object) (w : ℕ) → flatTakenBy (quickOf (takenApart o w)) ≡ takenAs (flatFor o w)
+unfolding quickOf takenApart flatRequestOf
+flat-by-kind (object.Fixed f p v a) w = refl
+flat-by-kind (object.Battery x m p) w = refl
+flat-by-kind (object.Variable x m a) w = refl
+flat-by-kind (object.Pps l x m a) w = refl
+flat-by-kind (object.Avs p l h) w = refl
+
+pub arin-decoded-for-the-kind : ArinDecodedForTheKind
+arin-decoded-for-the-kind l w counted inside o d t is =
+    let all = is ∙ flat-taken l w ∙ ap flatTakenBy (of-object l w counted inside o (sym (decoded-is _ (Known o) d))) ∙ flat-by-kind o w in
+    (ap (λ (x : FlatTaken). x .verdict) all, ap (λ (x : FlatTaken). x .request) all)
+
 -- ---- agreement
 
 -- an answer from the summary that was made is one from the summary of the list
@@ -119,7 +133,7 @@ outside-is-20 l w e outside = (
   (λ v g. g ∙ list-20 l (shaped l e) w outside),
   (
     (λ t is. is ∙ taking-20 l (shaped l e) w outside),
-    (λ m is a p r f. f ∙ from-own l e m is a ∙ summary-20 l (shaped l e) w outside a p),
+    (λ m is a p r f. f ∙ from-own l e m is a ∙ summary-20 l (shaped l e) a p),
   ),
 )
 

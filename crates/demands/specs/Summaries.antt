@@ -7,8 +7,9 @@
 use mathlib.Core.Path.{_≡_}
 use mathlib.Core.Bool.{true, false}
 use mathlib.Core.Logic.{_↔_, _⊎_}
-use Prim.Native.Nat.{ℕ, _-_, _≤_, max}
-use lib.ListN.{getD}
+use Prim.Native.Nat.{ℕ, _-_, _≤_, _<_, max}
+use mathlib.Core.List.{[]}
+use lib.ListN.{length, getD}
 use Rattle.verdicts.specs.declared.Verdict.{Verdict}
 use Rattle.verdicts.specs.Refusals.{verdict, success}
 use Rattle.steps.specs.Units.{ma50}
@@ -23,7 +24,7 @@ use Rattle.lists.specs.declared.Words.{Words}
 use Rattle.lists.specs.declared.Listing.{Listing}
 use Rattle.lists.specs.Shape.{badCount}
 use Rattle.rules.specs.declared.Profile.{Profile}
-use Rattle.requests.specs.Taking.{positionOf, mismatchOf}
+use Rattle.requests.specs.Taking.{positionOf, mismatchOf, operatingIn, maximumIn, ppsVolts, avsVolts, currentIn}
 use Rattle.requests.specs.Answering.{badPosition, namedBy}
 use Rattle.summaries.specs.declared.Summary.{Summary}
 use Rattle.summaries.specs.declared.Summarized.{Summarized}
@@ -34,19 +35,23 @@ use Rattle.summaries.specs.declared.TakenRequest.the-variants.{Refused, Battery
 use Rattle.summaries.specs.Summaries.{lowestIn, highestIn, belowIn, aboveIn, limitsOf, noLimits}
 use Rattle.summaries.specs.Taking.{askedAs}
 use Rattle.summaries.specs.Answering.{rowOf}
+use Rattle.flat.specs.declared.FlatRequest.{FlatRequest}
 use Rattle.flat.specs.declared.FlatTaken.{FlatTaken}
+use Rattle.flat.specs.Flat.{noMa10}
+use Rattle.flat.specs.Requesting.{bitOf, flatCurrents, flatIn20mV, flatIn25mV}
 use Rattle.demands.specs.CallContracts.{DecodeAnswers, ShapeAnswers, BuildAnswers, TakeApartAnswers, AnswerAnswers}
 use Rattle.demands.specs.FlatContracts.{ArinAnswerAnswers}
 use Rattle.demands.specs.SummaryContracts.{SummarizeAnswers, TakeRequestAnswers, AnswerSummaryAnswers, ArinSummarizeAnswers, ArinTakeRequestAnswers, ArinAnswerSummaryAnswers}
 
 -- ---- what a summary says
 
--- the count of the list, in each row up to it the limits of the object that `decode` gives for the word, and zeros past it
+-- the count of the list, in each of the seven rows up to it the limits of the object that `decode` gives for the word, and zeros past it
 pub record SaysOf (l : Words) (s : Summary) : Type 0 where
   pub count : s .count ≡ l .count
   pub row : (position : ℕ) → badPosition (l .count) position ≡ false → (o : Object) → DecodeAnswers (getD (l .words) (position - 1) 0) (Known o)
       → rowOf s position ≡ limitsOf o
-  pub past : (k : ℕ) → l .count ≤ k → getD (s .rows) k noLimits ≡ noLimits
+  pub past : (k : ℕ) → l .count ≤ k → k < 7 → getD (s .rows) k [] ≡ noLimits
+  pub seven : length (s .rows) ≡ 7
 
 -- of every list whose shape passes
 abbrev pub SummaryRowByRow : Type 0
@@ -81,6 +86,20 @@ DecodedForTheKind =
     → (t : TakenRequest) → TakeRequestAnswers l w t
     → (IsBattery o × (t ≡ Battery (positionOf w) (mismatchOf w))) ⊎ DecodedAs o w t
 
+-- the struct of C for an object, field by field: the figures of the request as `take_apart` has them, and for a battery none
+abbrev pub flatFor : Object → ℕ → FlatRequest
+flatFor (object.Fixed f p v a) w = flatCurrents 0 (positionOf w) (bitOf (mismatchOf w)) (record { 0 = operatingIn w }) (record { 0 = maximumIn w })
+flatFor (object.Battery x m p) w = flatCurrents 1 (positionOf w) (bitOf (mismatchOf w)) noMa10 noMa10
+flatFor (object.Variable x m a) w = flatCurrents 2 (positionOf w) (bitOf (mismatchOf w)) (record { 0 = operatingIn w }) (record { 0 = maximumIn w })
+flatFor (object.Pps l x m a) w = flatIn20mV 3 (positionOf w) (bitOf (mismatchOf w)) (ppsVolts w) (currentIn w)
+flatFor (object.Avs p l h) w = flatIn25mV 4 (positionOf w) (bitOf (mismatchOf w)) (avsVolts w) (currentIn w)
+
+abbrev pub ArinDecodedForTheKind : Type 0
+ArinDecodedForTheKind =
+    (l : Words) (w : ℕ) → badCount (l .count) ≡ false → badPosition (l .count) (positionOf w) ≡ false
+    → (o : Object) → DecodeAnswers (getD (l .words) (positionOf w - 1) 0) (Known o)
+    → (t : FlatTaken) → ArinTakeRequestAnswers l w t → (t .verdict ≡ success) × (t .request ≡ flatFor o w)
+
 -- ---- agreement
 
 -- "For every list that has its shape, and every request word that is decoded for an object of it, the answer from the summary of the list is the
@@ -107,7 +126,7 @@ OutsideIs20 =
     (l : Words) (w : ℕ) → ShapeAnswers l success → badPosition (l .count) (positionOf w) ≡ true
     → ((v : Verdict) → AnswerAnswers l w v → v ≡ verdict 20 0)
     × (((t : TakenRequest) → TakeRequestAnswers l w t → t ≡ Refused (verdict 20 0))
-    × ((m : Summarized) → SummarizeAnswers l m → (a : QuickAsked) → a .position ≡ positionOf w
+    × ((m : Summarized) → SummarizeAnswers l m → (a : QuickAsked) → badPosition (l .count) (a .position) ≡ true
     → (r : Verdict) → AnswerSummaryAnswers (m .summary) a r → r ≡ verdict 20 0))
 
 -- a list that is built has its shape, so the summary of a built list agrees with it

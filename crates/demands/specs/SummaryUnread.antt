@@ -4,12 +4,14 @@
 -- `AgreeWords` (lists, specs/Unread): the same count, and the same up to it.
 -- Assumes nothing.
 use mathlib.Core.Path.{_≡_}
+use mathlib.Core.Bool.{false}
 use Prim.Native.Nat.{ℕ, _-_}
 use lib.ListN.{getD}
 use Rattle.verdicts.specs.declared.Verdict.{Verdict}
 use Rattle.lists.specs.declared.Words.{Words}
 use Rattle.lists.specs.Unread.{AgreeWords}
 use Rattle.requests.specs.Taking.{positionOf}
+use Rattle.requests.specs.Answering.{badPosition}
 use Rattle.summaries.specs.declared.Summary.{Summary}
 use Rattle.summaries.specs.declared.Summarized.{Summarized}
 use Rattle.summaries.specs.declared.QuickAsked.{QuickAsked}
@@ -28,10 +30,10 @@ SummarizeDoesNotLook = (l m : Words) → AgreeWords l m → (r s : Summarized) �
 abbrev pub ArinSummarizeDoesNotLook : Type 0
 ArinSummarizeDoesNotLook = (l m : Words) → AgreeWords l m → (r s : Summarized) → ArinSummarizeAnswers l r → ArinSummarizeAnswers m s → r ≡ s
 
--- lists of the same count with the same word where a request word names one
+-- lists of the same count, with the same word where the position of a request word names one
 pub record SameNamed (l m : Words) (w : ℕ) : Type 0 where
   pub count : l .count ≡ m .count
-  pub word : getD (l .words) (positionOf w - 1) 0 ≡ getD (m .words) (positionOf w - 1) 0
+  pub word : badPosition (l .count) (positionOf w) ≡ false → getD (l .words) (positionOf w - 1) 0 ≡ getD (m .words) (positionOf w - 1) 0
 
 abbrev pub TakeRequestLooksAtOne : Type 0
 TakeRequestLooksAtOne =
@@ -47,10 +49,10 @@ ArinTakeRequestLooksAtOne =
 
 -- ---- summaries
 
--- summaries of the same count with the same row at a position
+-- summaries of the same count, with the same row where a position has one
 pub record SameRow (s t : Summary) (position : ℕ) : Type 0 where
   pub count : s .count ≡ t .count
-  pub row : rowOf s position ≡ rowOf t position
+  pub row : badPosition (s .count) position ≡ false → rowOf s position ≡ rowOf t position
 
 abbrev pub AnswerSummaryLooksAtOne : Type 0
 AnswerSummaryLooksAtOne =

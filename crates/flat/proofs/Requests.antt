@@ -1,10 +1,10 @@
 -- Decoded requests as C has them: which kind numbers have one, and the answer by way of it.
 -- Assumes nothing.
-use mathlib.Core.Path.{_≡_, refl, sym, ap, ap₂, _∙_, subst}
+use mathlib.Core.Path.{_≡_, refl, sym, ap, _∙_, subst}
 use mathlib.Core.Bool.{Bool, true, false, not}
 use mathlib.Core.List.{List, _∷_}
 use Prim.Native.Nat.{ℕ, zero, suc}
-use lib.Dec.{ltb, eqb}
+use lib.Dec.{eqb}
 use native.Mathlib.Omega.{arith}
 use borrow.Author.Tests.{ne-eqb}
 use Rattle.verdicts.specs.declared.Verdict.{Verdict}
@@ -19,7 +19,8 @@ use Rattle.summaries.specs.declared.TakenRequest.{TakenRequest}
 use Rattle.summaries.specs.declared.TakenRequest.the-variants.{Refused, Battery, Quick}
 use Rattle.summaries.specs.Taking.{takenVerdict, takenOf}
 use Rattle.requests.specs.Answering.{badPosition}
-use Rattle.summaries.specs.Answering.{rowRefusals, rowOf, summaryRefusals, answeredBy}
+use Rattle.summaries.specs.Answering.{rowOf, summaryRefusals, answeredBy}
+use Rattle.summaries.proofs.Unread.{answered-alike}
 use Rattle.flat.specs.declared.FlatRequest.{FlatRequest}
 use Rattle.flat.specs.declared.FlatTaken.{FlatTaken}
 use Rattle.flat.specs.declared.requesting.RaisedRequest.{RaisedRequest}
@@ -121,30 +122,7 @@ module _ (l : Words) (w : ℕ) where
 pub flat-taken-by-one : (l m : Words) (w : ℕ) → takenOf l w ≡ takenOf m w → flatTakenOf l w ≡ flatTakenOf m w
 flat-taken-by-one l m w e = flat-taken l w ∙ ap flatTakenBy e ∙ sym (flat-taken m w)
 
--- the position is that of the struct, whatever the kind
-position-by : (k : ℕ) (x : FlatRequest) → askedOf (raisedRequestBy k x) x .position ≡ x .position
-position-by zero x = refl
-position-by (suc zero) x = refl
-position-by (suc (suc zero)) x = refl
-position-by (suc (suc (suc zero))) x = refl
-position-by (suc (suc (suc (suc zero)))) x = refl
-position-by (suc (suc (suc (suc (suc k))))) x = refl
-
-position-of : (x : FlatRequest) → askedOf (raisedRequestOf x) x .position ≡ x .position
-unfolding raisedRequestOf
-position-of x = position-by (x .kind) x
-
-pub flat-answered-by-one : (s t : Summary) (x : FlatRequest) → s .count ≡ t .count → rowOf s (x .position) ≡ rowOf t (x .position)
-    → flatAnsweredOf s x ≡ flatAnsweredOf t x
-unfolding flatAnsweredOf
-flat-answered-by-one s t x e f =
-    let a = askedOf (raisedRequestOf x) x in
-    ap₂ (λ (n : ℕ) (ls : List ℕ). verdictOf (refusal (hasNone (x .kind)) 12 0
-    ∷ refusal (ltb 7 n) 10 0
-    ∷ refusal (badPosition n (a .position)) 20 0
-    ∷ rowRefusals ls (a .mismatch) (a .request))) e (ap (rowOf s) (position-of x) ∙ f ∙ sym (ap (rowOf t) (position-of x)))
-
--- .. and of the fields those of the kind alone
+-- by the decoded request, where there is one
 abbrev answeredRaised : Summary → RaisedRequest → Verdict
 answeredRaised s (Known a) = answeredBy s a
 answeredRaised s Unknown = verdict 12 0
@@ -155,6 +133,34 @@ by-raised s x = go (raisedRequestOf x) refl where
   go (Known a) e = by-decoded-request s x a e
   go Unknown e = no-decoded-request s x e
 
+-- the position is that of the struct, whatever the kind
+abbrev PlacedAt : ℕ → RaisedRequest → Type 0
+PlacedAt p (Known a) = a .position ≡ p
+PlacedAt p Unknown = Unit
+
+placed-by : (k : ℕ) (x : FlatRequest) → PlacedAt (x .position) (raisedRequestBy k x)
+placed-by zero x = refl
+placed-by (suc zero) x = tt
+placed-by (suc (suc zero)) x = refl
+placed-by (suc (suc (suc zero))) x = refl
+placed-by (suc (suc (suc (suc zero)))) x = refl
+placed-by (suc (suc (suc (suc (suc k))))) x = tt
+
+placed-as : (x : FlatRequest) → PlacedAt (x .position) (raisedRequestOf x)
+unfolding raisedRequestOf
+placed-as x = placed-by (x .kind) x
+
+-- of a summary the row of the position, where there is one
+pub flat-answered-alike : (s t : Summary) (x : FlatRequest) → s .count ≡ t .count
+    → (badPosition (s .count) (x .position) ≡ false → rowOf s (x .position) ≡ rowOf t (x .position)) → flatAnsweredOf s x ≡ flatAnsweredOf t x
+flat-answered-alike s t x e f = by-raised s x ∙ go (raisedRequestOf x) (placed-as x) ∙ sym (by-raised t x) where
+  go : (r : RaisedRequest) → PlacedAt (x .position) r → answeredRaised s r ≡ answeredRaised t r
+  go (Known a) p =
+      answered-alike s t a e
+      (λ q. ap (rowOf s) p ∙ f (ap (badPosition (s .count)) (sym p) ∙ q) ∙ sym (ap (rowOf t) p))
+  go Unknown p = refl
+
+-- of the struct the fields of the kind alone
 own-by : (k : ℕ) (x : FlatRequest) → x .kind ≡ k → raisedRequestBy (ownRequestBy k x .kind) (ownRequestBy k x) ≡ raisedRequestBy k x
 own-by zero x e = refl
 own-by (suc zero) x e = refl

@@ -1,5 +1,5 @@
--- What each public call of this crate promises of its answer (STATEMENT, "Lists in hand" and "Decoded requests"). The contracts cite these names, and so do the
--- theorems over them.
+-- What each public call of this crate promises of its answer (STATEMENT, "Lists in hand", "Decoded requests" and "Answering from a summary"). The
+-- contracts cite these names, and so do the theorems over them.
 -- Assumes nothing.
 use mathlib.Core.Path.{_≡_}
 use Prim.Native.Nat.{ℕ}

@@ -1,5 +1,6 @@
 -- One struct for the decoded requests of all kinds (STATEMENT, "Decoded requests": "C hands in a decoded request as one struct with a kind
--- number, that of the object. Fields that the kind does not have are not looked at, and are zero in what is given back.").
+-- number, that of the object. Fields that the kind does not have are not looked at, and are zero in what is given back."), and the answer to one
+-- ("Answering from a summary").
 -- Assumes nothing.
 use mathlib.Core.Bool.{Bool, not, _||_, cond}
 use mathlib.Core.List.{List, _∷_}
@@ -34,7 +35,7 @@ noMv20 = record { 0 = 0 }
 abbrev pub noMv25 : Mv25
 noMv25 = record { 0 = 0 }
 
--- "Bit 26 is a number there, 1 or 0 in what is given back"
+-- "Bit 26 is a number there: 1 or 0 in what is given back"
 abbrev pub bitOf : Bool → ℕ
 bitOf mismatch = cond mismatch 1 0
 

@@ -38,19 +38,21 @@ module _ {A : Type 0} (f : ℕ → A) (blank : A) where
   one-blank (suc (suc (suc (suc (suc (suc zero)))))) h e = rw e
   one-blank (suc (suc (suc (suc (suc (suc (suc i))))))) h e = absurd (omega arith)
 
-  -- what stands at a place that is filled, whatever would stand past the seven
-  pub at-filled : (other : A) (n k : ℕ) → n ≤ 7 → k < n → getD (sevenTo f blank n) k other ≡ f k
+  -- what stands at a place, whatever would stand past the seven
+  at-place : (other : A) (n k : ℕ) → k < 7 → getD (sevenTo f blank n) k other ≡ placeTo f blank n k
   unfolding sevenTo
-  at-filled other n k h l = at k (omega arith) ∙ ap (λ b. cond b (f k) blank) (lt-ltb k n l) where
-    at : (k : ℕ) → k < 7 → getD (sevenTo f blank n) k other ≡ placeTo f blank n k
-    at zero h = refl
-    at (suc zero) h = refl
-    at (suc (suc zero)) h = refl
-    at (suc (suc (suc zero))) h = refl
-    at (suc (suc (suc (suc zero)))) h = refl
-    at (suc (suc (suc (suc (suc zero))))) h = refl
-    at (suc (suc (suc (suc (suc (suc zero)))))) h = refl
-    at (suc (suc (suc (suc (suc (suc (suc i))))))) h = absurd (omega arith)
+  at-place other n zero h = refl
+  at-place other n (suc zero) h = refl
+  at-place other n (suc (suc zero)) h = refl
+  at-place other n (suc (suc (suc zero))) h = refl
+  at-place other n (suc (suc (suc (suc zero)))) h = refl
+  at-place other n (suc (suc (suc (suc (suc zero))))) h = refl
+  at-place other n (suc (suc (suc (suc (suc (suc zero)))))) h = refl
+  at-place other n (suc (suc (suc (suc (suc (suc (suc i))))))) h = absurd (omega arith)
+
+  -- .. where it is filled
+  pub at-filled : (other : A) (n k : ℕ) → n ≤ 7 → k < n → getD (sevenTo f blank n) k other ≡ f k
+  at-filled other n k h l = at-place other n k (omega arith) ∙ ap (λ b. cond b (f k) blank) (lt-ltb k n l)
 
   pub filled-at : (n k : ℕ) → n ≤ 7 → k < n → getD (sevenTo f blank n) k blank ≡ f k
   filled-at = at-filled blank
@@ -58,7 +60,15 @@ module _ {A : Type 0} (f : ℕ → A) (blank : A) where
   blank-at : (n k : ℕ) → n ≤ k → placeTo f blank n k ≡ blank
   blank-at n k h = ap (λ b. cond b (f k) blank) (le-ltb k n h)
 
-  -- and at one that is not
+  -- .. and where it is not
+  pub at-blank : (other : A) (n k : ℕ) → n ≤ k → k < 7 → getD (sevenTo f blank n) k other ≡ blank
+  at-blank other n k h l = at-place other n k l ∙ blank-at n k h
+
+  pub seven-long : (n : ℕ) → length (sevenTo f blank n) ≡ 7
+  unfolding sevenTo
+  seven-long n = refl
+
+  -- past the filled ones, and past the seven too
   pub past-filled : (n k : ℕ) → n ≤ k → getD (sevenTo f blank n) k blank ≡ blank
   unfolding sevenTo
   past-filled n zero h = blank-at n 0 h

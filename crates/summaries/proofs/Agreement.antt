@@ -41,7 +41,7 @@ use Rattle.summaries.proofs.Takings as takings
 
 -- ---- by the limits of an object
 
--- "in the summary of a list the two are the same": then the voltage does not matter
+-- where the two currents of a row are the same, the voltage does not matter
 level : (mv ma : ℕ) → avsLimit mv ma ma ≡ ma
 level mv ma = go (ltb mv 15000) refl (ltb 15000 mv) refl where
   go : (a : Bool) → ltb mv 15000 ≡ a → (b : Bool) → ltb 15000 mv ≡ b → avsLimit mv ma ma ≡ ma
@@ -127,6 +127,10 @@ module _ (l : Words) (shaped : shapeOf l .number ≡ 0) where
   pub row-at : (position : ℕ) → badPosition (l .count) position ≡ false → rowOf (summaryOf l) position ≡ limitsAt (l .words) (position - 1)
   row-at position e = at-filled (limitsAt (l .words)) noLimits [] (l .count) (position - 1) to-7 (position-inside (l .count) position e)
 
+  -- a decoded request whose position is outside the count
+  pub summary-20 : (a : QuickAsked) → badPosition (l .count) (a .position) ≡ true → answeredBy (summaryOf l) a ≡ verdict 20 0
+  summary-20 a e = misplaced (summaryOf l) a to-7 e
+
   module _ (w : ℕ) where
     pub placed-alike : (o : Object) → badPosition (l .count) (positionOf w) ≡ false → namedBy l w ≡ Known o
         → (a : QuickAsked) → askedAs a ≡ takenApart o w → answeredBy (summaryOf l) a ≡ answerOf l w
@@ -158,14 +162,10 @@ module _ (l : Words) (shaped : shapeOf l .number ≡ 0) where
           let named = names-object l w shaped (position-from-1 (l .count) (positionOf w) e) (position-to-count (l .count) (positionOf w) e) in
           absurd (not-refused o w u (sym (takings.of-object l w counted e o named) ∙ is))
 
-    -- "Where the position of a request word is outside the count, the answer from the list is 20, decoding gives 20, and every decoded
-    -- request with that position gets 20 from the summary."
+    -- "Where the position of a request word is outside the count, the answer from the list is 20, decoding gives 20"
     module _ (outside : badPosition (l .count) (positionOf w) ≡ true) where
       pub list-20 : answerOf l w ≡ verdict 20 0
       list-20 = list-misplaced l w shaped outside
 
       pub taking-20 : takenOf l w ≡ takenRefused 20 0
       taking-20 = takings.misplaced l w counted outside
-
-      pub summary-20 : (a : QuickAsked) → a .position ≡ positionOf w → answeredBy (summaryOf l) a ≡ verdict 20 0
-      summary-20 a e = misplaced (summaryOf l) a to-7 (ap (badPosition (l .count)) e ∙ outside)

@@ -50,13 +50,13 @@ decodingRefusals l w =
 unfoldable pub takenOf : Words → ℕ → TakenRequest
 takenOf l w = firstOf takenRefused (decodingRefusals l w) (quickOf (takenApart (objectOf (namedBy l w)) w))
 
+-- ---- no contract cites these
+
 -- What each answer says: its number and place. On a refusal nothing else is given.
 abbrev pub takenVerdict : TakenRequest → Verdict
 takenVerdict (Refused v) = v
 takenVerdict (Battery p m) = success
 takenVerdict (Quick a) = success
-
--- ---- no contract cites these
 
 -- a decoded request as `requests` has it taken apart, where there is a battery too
 abbrev pub requestAs : QuickRequest → Request

@@ -1,4 +1,4 @@
-// A summary put together and taken apart. A field that is an array of arrays is walked by hand, so these three are all that touch it.
+// A summary put together and taken apart. Where a field is an array of arrays, the proof walks by hand; so these three are all that touch it.
 ghost use mathlib.Core.Path.{_≡_};
 ghost use mathlib.Core.List.{[]};
 ghost use Prim.Native.Nat.{_<_};

@@ -11,7 +11,7 @@ use steps::Ma50;
 use steps::Mv50;
 use steps::Mv100;
 
-// Battery, and with a current fixed and variable: voltages in 50 mV.
+// Fixed, variable, and without a current battery: voltages in 50 mV.
 fn limits_50(min: Mv50, max: Mv50, current: Ma10) -> [u16; 4]
     requires { ⌜ min .0 < 1024 ⌝ }
     requires { ⌜ max .0 < 1024 ⌝ }
@@ -45,6 +45,7 @@ fn limits_avs(low: Ma10, high: Ma10) -> [u16; 4]
     [9000, 20000, below, high.0 * 10]
 }
 
+// The row of an object.
 pub(crate) fn limits(o: Object) -> [u16; 4]
     requires { ⌜ Narrow o ⌝ }
     ensures { λ r. ⌜ r ≡ limitsOf o ⌝ }

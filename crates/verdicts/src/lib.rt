@@ -37,13 +37,14 @@ pub const FIELD_TOO_WIDE: u8 = 7;
 // The last input record of the program `caps` is shorter than 8 bytes. No call gives it.
 pub const RECORD_SHORT: u8 = 9;
 
-// The shape of a list: the count is outside 1 to 7.
+// The shape of a list: the count is outside 1 to 7. From a summary: its count is above 7.
 pub const COUNT: u8 = 10;
 
 // The shape of a list: the first object is not a fixed 5 V supply. The place is 1.
 pub const FIRST_NOT_FIXED_5_V: u8 = 11;
 
-// The shape of a list: a word is of no kind that such a list may hold. The place is the word.
+// The shape of a list: a word is of no kind that such a list may hold. The place is the word. From a summary, in C: a kind number without decoded
+// requests. The place is 0.
 pub const KIND_NOT_ALLOWED: u8 = 12;
 
 // The shape of a list: a reserved bit of a word is set. The place is the word.

@@ -203,7 +203,7 @@ fn the_library_refuses_in_a_sentence() {
         ("36 --cable 99999999999999999999", "refused (3): the cable"),
         ("36 --flags 64", "refused (5): the flags are above 63"),
         ("36 --present 27 --pps", "refused (6): PPS is wanted while"),
-        ("--words", "refused (10): the count of a list is outside 1 to 7"),
+        ("--words", "refused (10): the count of a list is outside 1 to 7, or that of a summary above 7"),
         (
             "--words E003C000",
             "refused (11) at word 1, E003C000: the first object is not a fixed 5 V supply",

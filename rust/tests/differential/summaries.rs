@@ -3,6 +3,7 @@
 use crate::common::convert::{ToLibrary, ToModel};
 use crate::common::run::Run;
 use crate::{lists_made, requests_made, summaries_made};
+use arinduleu::lists::shape;
 use arinduleu::summaries::{answer_summary, rows_of, summarize, take_request, TakenRequest};
 use arinduleu::{board, flat, requests};
 use model::{Figures, FlatRequest, Summary, Taken, Verdict, Words};
@@ -28,7 +29,7 @@ fn summaries_made_of_lists() {
         run.same("arin_summarize", &list, of_board, stated);
         let rows = rows_of(made.summary);
         run.same("rows_of", &list, rows, stated.summary.rows);
-        run.same("shape", &list, stated.verdict, model::shape(&list));
+        run.same("shape", &list, shape(list.library()).model(), stated.verdict);
         run.saw(stated.verdict.number);
     }
     run.finish(MADE, &[]);

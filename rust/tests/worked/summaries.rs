@@ -140,7 +140,7 @@ fn counts_and_positions() {
     }
 }
 
-/// Of every kind number, on no summary and on one that allows all: no kind is refused before the count is.
+/// Of every kind number, on no summary and on one that allows all: a kind that has no answer is refused before the count.
 #[test]
 fn every_kind_number() {
     for kind in 0..=u8::MAX {
