@@ -1,5 +1,8 @@
 // What firmware calls: the sharing calls over lent rows (docs/STATEMENT.md, "Ports that share"), every call on lists, those of
 // sinks too, summaries, and whole messages, each under a C name that begins with `arin_`. `rt staticlib board` makes one archive of them.
+
+#![tactic(auto)]
+
 mod listing;
 mod messaging;
 mod rows;

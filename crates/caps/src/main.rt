@@ -1,9 +1,12 @@
 // The listing program (STATEMENT, "The listing program"): one line for each record of eight bytes on standard input.
+
+#![tactic(auto)]
+
 mod blocks;
 mod records;
 
 // The next free place of the output block, or that a write failed.
-#[derive(Drop)]
+#[derive(Clone, Copy)]
 pub enum Written {
     At(usize),
     Failed,
@@ -11,7 +14,7 @@ pub enum Written {
 
 // After a read: how many bytes of an unfinished record are kept at the start of the input block, and the next free
 // place of the output block; or that there is nothing more to do.
-#[derive(Drop)]
+#[derive(Clone, Copy)]
 pub enum Step {
     More { kept: usize, next: usize },
     Ended,

@@ -1,5 +1,8 @@
 // The cases of STATEMENT, "Worked by hand", with the table and the examples of the change notice, run on the real library. One line a
 // case: "ok" when the library answered what is wanted, "WRONG" when not. The marked cases are proved as well, in `demands`.
+
+#![tactic(auto)]
+
 mod expecting;
 mod lists_by_hand;
 mod making;

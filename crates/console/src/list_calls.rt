@@ -6,7 +6,7 @@ use object_lines::take_list;
 use rules::Profile;
 use steps::{HalfWatts, Ma10};
 
-#[derive(Drop)]
+#[derive(Clone, Copy)]
 struct ProfileFields {
     profile: Profile,
     next: usize,

@@ -1,4 +1,7 @@
 // Every public call from a terminal: one line in, one line out.
+
+#![tactic(auto)]
+
 mod answering;
 mod list_calls;
 mod port_calls;

@@ -7,7 +7,7 @@ use lines::{flush, put, put_unreadable};
 // The console between two bytes. `length` counts the bytes of the line so far, and stays at 513 for a line of more than
 // 512; `end` is where the bytes that wait to be written end; `open` is false once the input has ended or nothing can be
 // written any more.
-#[derive(Drop)]
+#[derive(Clone, Copy)]
 struct Console {
     table: Table,
     length: usize,

@@ -6,26 +6,26 @@ use ports::{NO_ROW, Row};
 use steps::{HalfWatts, Ma10};
 
 // Up to nine rows, one more than the sharing calls take, so that a table too long can be shown to be refused.
-#[derive(Drop)]
+#[derive(Clone, Copy)]
 pub(crate) struct Table {
     pub rows: [Row; 9],
     pub count: usize,
 }
 
 // What a line leaves: the table, and where the bytes that wait to be written end.
-#[derive(Drop)]
+#[derive(Clone, Copy)]
 pub(crate) struct Answered {
     pub table: Table,
     pub end: usize,
 }
 
-#[derive(Drop)]
+#[derive(Clone, Copy)]
 struct RowField {
     row: Row,
     next: usize,
 }
 
-#[derive(Drop)]
+#[derive(Clone, Copy)]
 struct TableFields {
     table: Table,
     next: usize,

@@ -1,5 +1,8 @@
 // Objects and decoded requests as C takes them. `objects::Object` is an enum with data, which no C struct is: here is one struct for all
 // five kinds, and the lists of `lists` are read and written with it, those of a sink too. A decoded request is such a struct likewise.
+
+#![tactic(auto)]
+
 mod flattening;
 mod reading;
 mod requesting;
@@ -31,7 +34,7 @@ pub const KIND_AVS: u8 = 4;
 // One object of any kind: each field has one step of measure, whatever the kind. A field that a kind does not have is
 // zero when it is given out, and not read when it is taken in.
 #[repr(C)]
-#[derive(Drop)]
+#[derive(Clone, Copy)]
 pub struct FlatObject {
     // One of the five above; any other number is no object.
     pub kind: u8,
@@ -65,7 +68,7 @@ pub struct FlatObject {
 
 // Seven objects and how many of them count. What lies past the count is returned as zero and not read on the way in.
 #[repr(C)]
-#[derive(Drop)]
+#[derive(Clone, Copy)]
 pub struct FlatObjects {
     // The objects, in order.
     pub places: [FlatObject; 7],
@@ -75,7 +78,7 @@ pub struct FlatObjects {
 
 // What reading gives: on a refusal the list is empty and all zero.
 #[repr(C)]
-#[derive(Drop)]
+#[derive(Clone, Copy)]
 pub struct FlatReading {
     // The first refusal that applies, or success.
     pub verdict: Verdict,
@@ -84,7 +87,7 @@ pub struct FlatReading {
 }
 
 // The object of a flat one, or a kind number that is none of the five (refusal 12).
-#[derive(Drop)]
+#[derive(Clone, Copy)]
 pub enum Raised {
     // The object.
     Known(Object),
@@ -95,7 +98,7 @@ pub enum Raised {
 // A decoded request of any kind: each field has one step of measure. A field that a kind does not have is zero when it is given out, and not
 // read when it is taken in.
 #[repr(C)]
-#[derive(Drop)]
+#[derive(Clone, Copy)]
 pub struct FlatRequest {
     // The kind of the object at its position, as above. A request to a battery object is for the list: a summary refuses it with 12.
     pub kind: u8,
@@ -117,7 +120,7 @@ pub struct FlatRequest {
 
 // What decoding gives: on a refusal the request is all zero, so that no position is named.
 #[repr(C)]
-#[derive(Drop)]
+#[derive(Clone, Copy)]
 pub struct FlatTaken {
     // The first refusal that applies, or success.
     pub verdict: Verdict,

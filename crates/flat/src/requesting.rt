@@ -12,7 +12,7 @@ use summaries::{QuickAsked, QuickRequest, Summary, TakenRequest};
 use verdicts::Verdict;
 
 // The decoded request of a flat one, or a kind number that has none (refusal 12).
-#[derive(Drop)]
+#[derive(Clone, Copy)]
 enum RaisedRequest {
     // The decoded request.
     Known(QuickAsked),

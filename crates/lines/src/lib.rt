@@ -1,4 +1,7 @@
 // What both programs print with, and the lines of the console: the fields that are typed, and the answers that are told.
+
+#![tactic(auto)]
+
 mod fields;
 mod printing;
 mod text;

@@ -1,5 +1,8 @@
 // Lists in hand: seven places and a count (docs/STATEMENT.md, "Lists in hand"). Their shape is checked here, and they are read and
 // written.
+
+#![tactic(auto)]
+
 mod object_rules;
 mod read_list;
 mod shape_check;
@@ -14,7 +17,7 @@ pub use write_list::{finished, refuse, write};
 
 // Seven words and how many of them count. What lies past the count is not read.
 #[repr(C)]
-#[derive(Drop)]
+#[derive(Clone, Copy)]
 pub struct Words {
     // The words of Source_Capabilities or of a sink's list, in order.
     pub words: [u32; 7],
@@ -23,14 +26,14 @@ pub struct Words {
 }
 
 // One place of a decoded list.
-#[derive(Drop)]
+#[derive(Clone, Copy)]
 pub struct Place {
     // The object that stands there.
     pub object: Object,
 }
 
 // Seven objects and how many of them count. What lies past the count is not read.
-#[derive(Drop)]
+#[derive(Clone, Copy)]
 pub struct Objects {
     // The objects, in order.
     pub places: [Place; 7],
@@ -39,7 +42,7 @@ pub struct Objects {
 }
 
 // How a list stands before it is read: the first refusal, and how many words there are to read, none on a refusal.
-#[derive(Drop)]
+#[derive(Clone, Copy)]
 pub struct Shaped {
     // The first refusal that applies, or success.
     pub verdict: Verdict,
@@ -48,7 +51,7 @@ pub struct Shaped {
 }
 
 // What reading gives: on a refusal the list is empty and all zero.
-#[derive(Drop)]
+#[derive(Clone, Copy)]
 pub struct Reading {
     // The first refusal that applies, or success.
     pub verdict: Verdict,
@@ -58,7 +61,7 @@ pub struct Reading {
 
 // A list of words with its verdict: on a refusal the list is empty and all zero.
 #[repr(C)]
-#[derive(Drop)]
+#[derive(Clone, Copy)]
 pub struct Listing {
     // The first refusal that applies, or success.
     pub verdict: Verdict,

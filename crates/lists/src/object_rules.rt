@@ -49,7 +49,7 @@ pub fn over_100_w(o: Object) -> bool
 
 // How an object stands in the order: the rank of its kind, and the voltage that orders it among its kind, in that
 // kind's own step. The voltage of the other step is zero.
-#[derive(Drop)]
+#[derive(Clone, Copy)]
 pub struct Standing {
     pub rank: u8,
     pub volts: Mv50,

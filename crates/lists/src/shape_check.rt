@@ -16,14 +16,14 @@ use steps::{Ma10, Mv50, Mv100};
 use verdicts::Verdict;
 
 // What the words say: the first refusal, and the place of the AVS word, 0 for none.
-#[derive(Drop)]
+#[derive(Clone, Copy)]
 pub struct Scan {
     pub verdict: Verdict,
     pub avs: u8,
 }
 
 // A word that was judged: its first refusal, or how its object stands.
-#[derive(Drop)]
+#[derive(Clone, Copy)]
 pub struct Judged {
     pub verdict: Verdict,
     pub standing: Standing,

@@ -7,14 +7,14 @@ use messages::Header;
 // The most bytes that a line can have, typed or lent.
 pub(crate) const MOST_BYTES: usize = 40;
 
-#[derive(Drop)]
+#[derive(Clone, Copy)]
 pub(crate) struct ByteFields {
     pub bytes: [u8; 40],
     pub count: usize,
     pub next: usize,
 }
 
-#[derive(Drop)]
+#[derive(Clone, Copy)]
 pub(crate) struct HeaderFields {
     pub header: Header,
     pub next: usize,

@@ -1,4 +1,7 @@
 // The console's lines on messages: bytes and headers that are typed, and messages and buffers that are told.
+
+#![tactic(auto)]
+
 mod calls;
 mod fields;
 mod telling;

@@ -1,5 +1,8 @@
 // Whole messages (docs/STATEMENT.md, "Messages"): the header and the words of a Source_Capabilities or a Request, read from bytes and
 // written into them.
+
+#![tactic(auto)]
+
 mod headers;
 mod judging;
 mod low_first;
@@ -21,7 +24,7 @@ pub const LONGEST_MESSAGE: usize = 30;
 
 // The header of a message, field by field.
 #[repr(C)]
-#[derive(Drop)]
+#[derive(Clone, Copy)]
 pub struct Header {
     // Bit 15. 1 is an extended message, which is refused.
     pub extended: u8,
@@ -41,7 +44,7 @@ pub struct Header {
 
 // A header and seven words. As many of them count as the header says; what lies past that is not read.
 #[repr(C)]
-#[derive(Drop)]
+#[derive(Clone, Copy)]
 pub struct Message {
     // The header.
     pub header: Header,
@@ -51,7 +54,7 @@ pub struct Message {
 
 // What reading a message gives: on a refusal the message is all zero.
 #[repr(C)]
-#[derive(Drop)]
+#[derive(Clone, Copy)]
 pub struct MessageReading {
     // The first refusal that applies, or success.
     pub verdict: Verdict,
@@ -61,7 +64,7 @@ pub struct MessageReading {
 
 // What writing a message gives: on a refusal the length is 0, and no byte was written.
 #[repr(C)]
-#[derive(Drop)]
+#[derive(Clone, Copy)]
 pub struct Written {
     // The first refusal that applies, or success.
     pub verdict: Verdict,

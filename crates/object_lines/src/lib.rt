@@ -1,4 +1,7 @@
 // The console's lines on lists by themselves: words and objects that are typed and told, and the calls shape, read and write.
+
+#![tactic(auto)]
+
 mod calls;
 mod list_fields;
 mod object_fields;

@@ -2,7 +2,7 @@
 use lines::{take_seven_words, take_small_number};
 use lists::Words;
 
-#[derive(Drop)]
+#[derive(Clone, Copy)]
 pub struct WordFields {
     pub list: Words,
     pub next: usize,

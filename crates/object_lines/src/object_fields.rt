@@ -4,19 +4,19 @@ use lists::{EMPTY_PLACE, Objects, Place};
 use objects::Object;
 use steps::{Ma10, Ma50, Mv50, Mv100, Mw250};
 
-#[derive(Drop)]
+#[derive(Clone, Copy)]
 struct ObjectField {
     object: Object,
     next: usize,
 }
 
-#[derive(Drop)]
+#[derive(Clone, Copy)]
 pub(crate) struct ObjectFields {
     pub list: Objects,
     pub next: usize,
 }
 
-#[derive(Drop)]
+#[derive(Clone, Copy)]
 pub struct ThreeNumbers {
     pub first: u16,
     pub second: u16,

@@ -1,4 +1,7 @@
 // One word and one object (docs/STATEMENT.md, "Object words"): the kind, the bit places, and both ways between them.
+
+#![tactic(auto)]
+
 use steps::{Ma10, Ma50, Mv50, Mv100, Mw250};
 
 mod decoding;
@@ -10,7 +13,7 @@ pub use encoding::{avs_word, encode, fixed_word, pps_word};
 pub use reserved_bits::reserved_bit_set;
 
 // Who sends a list. A sink has fewer kinds and fewer fields; what it does have stands at the same bits.
-#[derive(Drop)]
+#[derive(Clone, Copy)]
 pub enum Side {
     // What is offered.
     Source,
@@ -41,7 +44,7 @@ pub const BITS_UNASSIGNED: u32 = 0b1111;
 
 // One of five kinds, with the fields of its own kind. `Fixed` stays the first: an empty place is a fixed object with
 // all fields zero.
-#[derive(Drop)]
+#[derive(Clone, Copy)]
 pub enum Object {
     // One voltage, up to a current.
     Fixed {
@@ -95,7 +98,7 @@ pub enum Object {
 }
 
 // What a word says: an object, or a kind that no SPR list may have (refusal 12).
-#[derive(Drop)]
+#[derive(Clone, Copy)]
 pub enum Decoded {
     // The object.
     Known(Object),
@@ -104,7 +107,7 @@ pub enum Decoded {
 }
 
 // The word of an object, or a field too wide for its bits (refusal 7).
-#[derive(Drop)]
+#[derive(Clone, Copy)]
 pub enum Encoded {
     // The word.
     Word(u32),

@@ -1,5 +1,8 @@
 // Ports that share one supply (docs/STATEMENT.md, "Ports that share"): how the rows stand, and what each call decides from that
 // and from its port's own row, by value. The calls themselves, over the lent rows, are in `board`.
+
+#![tactic(auto)]
+
 ghost use Rattle.ports.specs.Promises.{Empties};
 
 mod deciding;
@@ -16,7 +19,7 @@ use verdicts::Verdict;
 
 // One port. Fill in `max` and `pps` before set-up; the calls see to the rest.
 #[repr(C)]
-#[derive(Drop)]
+#[derive(Clone, Copy)]
 pub struct Row {
     // The port maximum M, 15 to 200.
     pub max: HalfWatts,
@@ -46,7 +49,7 @@ pub const FRESH: bool = true;
 pub const SOUND: bool = false;
 
 // How the rows stand, as far as they were looked at.
-#[derive(Drop)]
+#[derive(Clone, Copy)]
 pub struct Standing {
     // The first refusal, or success.
     pub fault: Verdict,
@@ -57,7 +60,7 @@ pub struct Standing {
 }
 
 // What a call decides: the answer, and the row to write.
-#[derive(Drop)]
+#[derive(Clone, Copy)]
 pub struct Change {
     // The first refusal that applies, or success.
     pub answer: Verdict,
@@ -69,7 +72,7 @@ pub struct Change {
 
 // Remaining power with its verdict: zero on a refusal.
 #[repr(C)]
-#[derive(Drop)]
+#[derive(Clone, Copy)]
 pub struct RemainingPower {
     // The first refusal that applies, or success.
     pub verdict: Verdict,

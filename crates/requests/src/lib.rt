@@ -1,4 +1,7 @@
 // Requests (docs/STATEMENT.md, "Answering a request"): a request word taken apart by the kind of the object it names, and judged.
+
+#![tactic(auto)]
+
 mod answering;
 mod judging;
 mod taking;
@@ -10,7 +13,7 @@ pub use taking::{position, take_apart};
 
 // What a request asks of an object, by the object's kind and in its steps. A PPS voltage counts 20 mV and an AVS
 // voltage 25 mV: the types keep them apart.
-#[derive(Drop)]
+#[derive(Clone, Copy)]
 pub enum Request {
     // Of a fixed object: two currents.
     Fixed {
@@ -50,7 +53,7 @@ pub enum Request {
 }
 
 // A request word taken apart.
-#[derive(Drop)]
+#[derive(Clone, Copy)]
 pub struct Asked {
     // The place of the object that it names, from 1, bits 31..28.
     pub position: u8,

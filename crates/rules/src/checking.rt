@@ -17,7 +17,7 @@ use steps::{Ma10, Mv100};
 use verdicts::Verdict;
 
 // What stands where a row's object has to stand: another object or none, or the right one, with a current that is allowed or not.
-#[derive(Drop)]
+#[derive(Clone, Copy)]
 pub enum Found {
     Other,
     Allowed,
@@ -25,7 +25,7 @@ pub enum Found {
 }
 
 // How far a list has been followed along the tables: the next place, and the first current on the way that is not allowed.
-#[derive(Drop)]
+#[derive(Clone, Copy)]
 pub struct Walk {
     pub at: u8,
     pub verdict: Verdict,

@@ -14,7 +14,7 @@ const THREE_A_50: Ma50 = Ma50(60);
 // ---- fixed objects
 
 // A quotient in 10 mA, rounded both ways.
-#[derive(Drop)]
+#[derive(Clone, Copy)]
 pub struct RoundedCurrents {
     pub down: Ma10,
     pub up: Ma10,

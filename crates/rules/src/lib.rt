@@ -1,5 +1,8 @@
 // Power rules (docs/STATEMENT.md, "Power rules"): the profile of a port, the list that is built for it, and the check of a list
 // against it.
+
+#![tactic(auto)]
+
 mod building;
 mod checking;
 mod currents;
@@ -16,7 +19,7 @@ use verdicts::Verdict;
 
 // A port: what a list is built for and checked against.
 #[repr(C)]
-#[derive(Drop)]
+#[derive(Clone, Copy)]
 pub struct Profile {
     // The port maximum M, 1 to 200.
     pub max: HalfWatts,
@@ -34,7 +37,7 @@ pub struct Profile {
 
 // A profile with its verdict: on a refusal the profile is all zero.
 #[repr(C)]
-#[derive(Drop)]
+#[derive(Clone, Copy)]
 pub struct Profiled {
     // The refusal, or success.
     pub verdict: Verdict,
@@ -43,7 +46,7 @@ pub struct Profiled {
 }
 
 // The word at a place of a built list, from 1, or that it has no such place (refusal 20).
-#[derive(Drop)]
+#[derive(Clone, Copy)]
 pub enum Placed {
     // The word.
     Word(u32),

@@ -3,7 +3,7 @@
 use steps::{HalfWatts, Mv100};
 
 // One row of the fixed part: a voltage in volts, and the port maximum that it must exceed.
-#[derive(Drop)]
+#[derive(Clone, Copy)]
 pub struct Rail {
     pub volts: u16,
     pub above: HalfWatts,
@@ -11,7 +11,7 @@ pub struct Rail {
 
 // A programmable supply: the volts of its name, the top of its range, the port maximum that it must exceed, and the one that it must
 // stay below.
-#[derive(Drop)]
+#[derive(Clone, Copy)]
 pub struct Supply {
     pub volts: u16,
     pub top: Mv100,

@@ -5,13 +5,13 @@ use object_lines::{objects_in, take_three};
 use sinks::{EMPTY_SINK_PLACE, SinkObject, SinkObjects, SinkPlace};
 use steps::{Ma10, Ma50, Mv50, Mv100, Mw250};
 
-#[derive(Drop)]
+#[derive(Clone, Copy)]
 struct SinkField {
     object: SinkObject,
     next: usize,
 }
 
-#[derive(Drop)]
+#[derive(Clone, Copy)]
 pub(crate) struct SinkFields {
     pub list: SinkObjects,
     pub next: usize,

@@ -1,4 +1,7 @@
 // The console's lines on sink lists: sink objects that are typed and told, and the four calls.
+
+#![tactic(auto)]
+
 mod calls;
 mod fields;
 mod telling;

@@ -1,5 +1,8 @@
 // Sink lists (docs/STATEMENT.md, "Sink lists"): what a sink needs, as words and as objects, its shape, and the rating that it is designed
 // for. What both sides have in common is in `objects` and `lists`, with the side as a parameter.
+
+#![tactic(auto)]
+
 mod rating;
 mod sink_lists;
 mod sink_words;
@@ -11,7 +14,7 @@ use steps::{Ma10, Ma50, Mv50, Mv100, Mw250};
 use verdicts::Verdict;
 
 // One of four kinds, with the fields of its own kind. `Fixed` stays the first: an empty place is a fixed object with all fields zero.
-#[derive(Drop)]
+#[derive(Clone, Copy)]
 pub enum SinkObject {
     // One voltage, and the current that is needed there.
     Fixed {
@@ -53,7 +56,7 @@ pub enum SinkObject {
 }
 
 // What a word says: a sink object, or a kind that no sink has (refusal 12).
-#[derive(Drop)]
+#[derive(Clone, Copy)]
 pub enum SinkDecoded {
     // The object.
     Known(SinkObject),
@@ -62,14 +65,14 @@ pub enum SinkDecoded {
 }
 
 // One place of a list: an object.
-#[derive(Drop)]
+#[derive(Clone, Copy)]
 pub struct SinkPlace {
     // The object.
     pub object: SinkObject,
 }
 
 // Seven places and how many of them count. What lies past the count is returned as zero and not read on the way in.
-#[derive(Drop)]
+#[derive(Clone, Copy)]
 pub struct SinkObjects {
     // The objects, in order.
     pub places: [SinkPlace; 7],
@@ -78,7 +81,7 @@ pub struct SinkObjects {
 }
 
 // What reading gives: on a refusal the list is empty and all zero.
-#[derive(Drop)]
+#[derive(Clone, Copy)]
 pub struct SinkReading {
     // The first refusal that applies, or success.
     pub verdict: Verdict,

@@ -2,6 +2,8 @@
 // figure in one step never stands where another is expected. The number inside counts steps: `Mv50(100)` is 5 V. Taken out by
 // `.0` it has no step; there the contracts, which speak of mV, mA and mW, say what it measures.
 
+#![tactic(auto)]
+
 mod currents;
 mod rounding;
 mod scaling;
@@ -11,46 +13,46 @@ pub use rounding::{round_both, round_down, round_up};
 
 // Voltage in steps of 20 mV: what a PPS request asks for.
 #[repr(C)]
-#[derive(Drop)]
+#[derive(Clone, Copy)]
 pub struct Mv20(pub u16);
 
 // Voltage in steps of 25 mV: what an AVS request asks for.
 #[repr(C)]
-#[derive(Drop)]
+#[derive(Clone, Copy)]
 pub struct Mv25(pub u16);
 
 // Voltage in steps of 50 mV: fixed, battery and variable objects.
 #[repr(C)]
-#[derive(Drop)]
+#[derive(Clone, Copy)]
 pub struct Mv50(pub u16);
 
 // Voltage in steps of 100 mV: PPS objects.
 #[repr(C)]
-#[derive(Drop)]
+#[derive(Clone, Copy)]
 pub struct Mv100(pub u16);
 
 // Current in steps of 10 mA: fixed, variable and AVS objects, and what a cable carries.
 #[repr(C)]
-#[derive(Drop)]
+#[derive(Clone, Copy)]
 pub struct Ma10(pub u16);
 
 // Current in steps of 50 mA: PPS objects, PPS and AVS requests.
 #[repr(C)]
-#[derive(Drop)]
+#[derive(Clone, Copy)]
 pub struct Ma50(pub u16);
 
 // Power in steps of 250 mW: battery objects.
 #[repr(C)]
-#[derive(Drop)]
+#[derive(Clone, Copy)]
 pub struct Mw250(pub u16);
 
 // Power in half watts: what a port is rated for (PDP).
 #[repr(C)]
-#[derive(Drop)]
+#[derive(Clone, Copy)]
 pub struct HalfWatts(pub u16);
 
 // Both roundings of one quotient.
-#[derive(Drop)]
+#[derive(Clone, Copy)]
 pub struct Roundings {
     // Rounded down.
     pub down: u32,
@@ -59,7 +61,7 @@ pub struct Roundings {
 }
 
 // A voltage asked for in steps of 20 mV. A conversion never loses anything: it gives the same measure, or it refuses.
-#[derive(Drop)]
+#[derive(Clone, Copy)]
 pub enum InMv20 {
     // The same voltage.
     Exact(Mv20),
@@ -68,7 +70,7 @@ pub enum InMv20 {
 }
 
 // A voltage asked for in steps of 25 mV: the same, or a refusal.
-#[derive(Drop)]
+#[derive(Clone, Copy)]
 pub enum InMv25 {
     // The same voltage.
     Exact(Mv25),
@@ -77,7 +79,7 @@ pub enum InMv25 {
 }
 
 // A voltage asked for in steps of 50 mV: the same, or a refusal.
-#[derive(Drop)]
+#[derive(Clone, Copy)]
 pub enum InMv50 {
     // The same voltage.
     Exact(Mv50),
@@ -86,7 +88,7 @@ pub enum InMv50 {
 }
 
 // A voltage asked for in steps of 100 mV: the same, or a refusal.
-#[derive(Drop)]
+#[derive(Clone, Copy)]
 pub enum InMv100 {
     // The same voltage.
     Exact(Mv100),
@@ -95,7 +97,7 @@ pub enum InMv100 {
 }
 
 // A current asked for in steps of 10 mA: the same, or a refusal.
-#[derive(Drop)]
+#[derive(Clone, Copy)]
 pub enum InMa10 {
     // The same current.
     Exact(Ma10),
@@ -104,7 +106,7 @@ pub enum InMa10 {
 }
 
 // A current asked for in steps of 50 mA: the same, or a refusal.
-#[derive(Drop)]
+#[derive(Clone, Copy)]
 pub enum InMa50 {
     // The same current.
     Exact(Ma50),

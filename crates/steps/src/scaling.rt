@@ -2,7 +2,7 @@
 ghost use Rattle.std.specs.Prelude.{◌≤◌, ◌<◌};
 ghost use Rattle.steps.specs.Promises.{Rescaled};
 
-#[derive(Drop)]
+#[derive(Clone, Copy)]
 pub(crate) enum Scaled {
     Exactly(u16),
     Lost,

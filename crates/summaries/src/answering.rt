@@ -15,11 +15,11 @@ use steps::{Ma10, Ma50, Mv20, Mv25};
 use verdicts::Verdict;
 
 // A voltage in mV that a request asks for.
-#[derive(Drop)]
+#[derive(Clone, Copy)]
 struct Mv(u32);
 
 // A current in mA that a request asks for.
-#[derive(Drop)]
+#[derive(Clone, Copy)]
 struct Ma(u32);
 
 // No answer to a request has a place of its own.

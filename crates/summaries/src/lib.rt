@@ -1,5 +1,8 @@
 // Summaries (docs/STATEMENT.md, "Summaries"): the limits of a list's objects in millivolts and milliamperes, and the answer to a
 // decoded request from them alone.
+
+#![tactic(auto)]
+
 mod answering;
 mod holding;
 mod limits;
@@ -27,7 +30,7 @@ pub const ABOVE_15_V: usize = 3;
 
 // What is kept beside a list: its count, and four limits for each of its seven places. Rows past the count are zero.
 #[repr(C)]
-#[derive(Drop)]
+#[derive(Clone, Copy)]
 pub struct Summary {
     // How many rows count: 1 to 7 for a list that passes, 0 on a refusal.
     pub count: u8,
@@ -37,7 +40,7 @@ pub struct Summary {
 
 // A summary with its verdict: on a refusal it is all zero.
 #[repr(C)]
-#[derive(Drop)]
+#[derive(Clone, Copy)]
 pub struct Summarized {
     // The first refusal that applies, or success.
     pub verdict: Verdict,
@@ -46,7 +49,7 @@ pub struct Summarized {
 }
 
 // What a request asks that a summary can answer. It is `requests::Request` without the battery: a battery row has no power.
-#[derive(Drop)]
+#[derive(Clone, Copy)]
 pub enum QuickRequest {
     // Of a fixed object: two currents.
     Fixed {
@@ -79,7 +82,7 @@ pub enum QuickRequest {
 }
 
 // A decoded request: a request word taken apart for the kind of the object at its position.
-#[derive(Drop)]
+#[derive(Clone, Copy)]
 pub struct QuickAsked {
     // The place of the object that it names, from 1.
     pub position: u8,
@@ -90,7 +93,7 @@ pub struct QuickAsked {
 }
 
 // What decoding gives.
-#[derive(Drop)]
+#[derive(Clone, Copy)]
 pub enum TakenRequest {
     // The first refusal that applies.
     Refused(Verdict),

@@ -1,9 +1,11 @@
 // What a call answers: the number of its refusal and the place (docs/STATEMENT.md, "Refusal numbers"). Every number has its
 // name here and nowhere else. There is no 8, and 21 is withdrawn: it is not given again.
 
+#![tactic(auto)]
+
 // The answer of a call: the first refusal that applies, or success, which is number 0, place 0.
 #[repr(C)]
-#[derive(Drop)]
+#[derive(Clone, Copy)]
 pub struct Verdict {
     // The number of the refusal, one of the names below; 0 for success.
     pub number: u8,
