@@ -1,0 +1,11 @@
+-- `lists::write` meets its contract: the words made are finished by their shape.
+-- Assumes nothing.
+use borrow.Author.Rules.{rules}
+use mathlib.Core.Path.{ap, ◌∙◌}
+use Rattle.objects.specs.declared.Side.TheVariants.{Source}
+use Rattle.lists.specs.Writing.{finished_of}
+use Rattle.lists.proofs.Writings.{made_finished}
+use Rattle.lists.proofs.write_list.write.Goals as goal
+
+pub returns : goal.returns
+returns c = c.finished.ensures ∙ ap (finished_of Source) c.encode_places.ensures ∙ made_finished Source _ _
