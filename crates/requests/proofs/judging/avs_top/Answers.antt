@@ -1,0 +1,11 @@
+-- `requests::judging::avs_top` meets its contract: 600 and 800 steps of 25 mV.
+-- Assumes nothing.
+use mathlib.Core.Path.{sym}
+use Rattle.requests.proofs.AvsLimits.{ends_at_15_V, ends_at_20_V}
+use Rattle.requests.proofs.judging.avs_top.Goals as goal
+
+pub returns-then-high-eq0 : goal.returns-then-high-eq0
+returns-then-high-eq0 c = sym (ends_at_15_V c.args.high c.if-high-eq0.true)
+
+pub returns : goal.returns
+returns c = sym (ends_at_20_V c.args.high c.if-high-eq0.false)
