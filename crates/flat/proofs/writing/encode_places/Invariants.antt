@@ -1,0 +1,19 @@
+-- `flat::writing::encode_places` meets its contract: the invariant is that no object passed is too wide, and the words so far are made.
+-- Assumes nothing.
+use borrow.Author.Rules.{rules}
+use mathlib.Core.Path.{◌≡◌, sym, ◌∙◌}
+use mathlib.Core.Bool.{false}
+use Prim.Native.Nat.{ℕ, ◌-◌, ◌≤◌}
+use native.Mathlib.Omega.{arith}
+use Rattle.objects.proofs.Saying.{encoded_one}
+use Rattle.lists.specs.Shape.{bad_count}
+use Rattle.lists.proofs.Shapes.{count_high}
+use Rattle.lists.proofs.Writings.{not_made, MadeTo, none_made, one_made, one_wide, all_made}
+use Rattle.flat.specs.Writing.{encoded_flat_at}
+use Rattle.flat.proofs.writing.encode_places.Given as goal
+
+abbrev pub invariant-loop-i : goal.invariant-loop-i
+invariant-loop-i l = (l.i ≤ l.count) × (l.count ≤ 7) × (bad_count l.count ≡ false) × MadeTo (encoded_flat_at l.side l.list.places) l.i l.words
+
+abbrev pub decreases-loop-i : goal.decreases-loop-i
+decreases-loop-i l = l.count - l.i
