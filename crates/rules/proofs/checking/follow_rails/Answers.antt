@@ -1,0 +1,34 @@
+-- `rules::checking::follow_rails` meets its contract: the invariant is that the rows passed are followed.
+-- Assumes nothing.
+use borrow.Author.Rules.{rules}
+use mathlib.Core.Path.{◌≡◌, ap, sym, ◌∙◌, subst}
+use Prim.Native.Nat.{ℕ, ◌-◌, ◌≤◌}
+use native.Mathlib.Omega.{arith}
+use Rattle.rules.specs.declared.checking.Walk.{Walk}
+use Rattle.rules.specs.Following.{followed}
+use Rattle.rules.proofs.TableWalk.{rails_to, rail_volts_above_0, rail_volts}
+use Rattle.rules.proofs.Steps.{none_followed, rail_followed}
+use Rattle.rules.proofs.Followed.{at_most_8}
+use Rattle.rules.proofs.checking.follow_rails.Goals as goal
+
+pub loop-i-init : goal.loop-i-init
+loop-i-init c = (search rules, none_followed c.args.p c.args.list)
+
+pub follow_rail-walk-requires : goal.follow_rail-walk-requires
+follow_rail-walk-requires c =
+    let s = c.before.before in
+    let x = s.args in
+    let seven = s.requires.1 in (
+      s.requires.0,
+      seven,
+      rail_volts_above_0 s.loop-i.i c.loop-i-test.true,
+      rail_volts s.loop-i.i,
+      subst (λ (w : Walk). w.at ≤ 8) (sym s.loop-i.invariant.1) (at_most_8 x.p x.list seven _),
+    )
+
+pub loop-i-preserved : goal.loop-i-preserved
+loop-i-preserved c =
+    let n = c.before.before in
+    let s = n.before in
+    let x = s.args in
+    (omega arith, c.follow_rail-walk.ensures ∙ rail_followed x.p x.list s.loop-i.walk s.loop-i.i n.loop-i-test.true s.loop-i.invariant.1)

@@ -1,0 +1,20 @@
+-- `rules::currents::fixed_allowed` meets its contract: by whether P is above 3 A.
+-- Assumes nothing.
+use mathlib.Core.Path.{◌≡◌, sym, ◌∙◌}
+use Prim.Native.Nat.{◌*◌, ◌<◌}
+use Rattle.rules.proofs.Allowed.{above_3_A_means, above_3_A_lem, not_above_3_A}
+use borrow.Author.Rules.{rules}
+use Rattle.rules.proofs.currents.fixed_allowed.Goals as goal
+
+pub returns-then-above_3_a : goal.returns-then-above_3_a
+returns-then-above_3_a c =
+    let t = c.before in
+    let x = t.args in
+    c.allowed_above_3_a.ensures ∙ sym (above_3_A_lem x.p x.volts x.current.0 (sym t.above_3_a.ensures ∙ t.if-above_3_a.true))
+
+pub returns : goal.returns
+returns c =
+    let e = c.before in
+    let x = e.args in
+    c.either_rounding.ensures
+    ∙ sym (not_above_3_A x.p x.volts x.current.0 (sym e.above_3_a.ensures ∙ e.if-above_3_a.false))

@@ -1,0 +1,13 @@
+-- `rules::currents::prog_down` meets its contract: a quotient of at most 200 half watts fits.
+-- Assumes nothing.
+use native.Mathlib.Omega.{arith}
+use Prim.Native.Nat.{◌*◌}
+use Rattle.steps.proofs.RoundingLaws.{down_within}
+use borrow.Author.Rules.{rules}
+use Rattle.rules.proofs.currents.prog_down.Goals as goal
+
+pub overflow_cast-result : goal.overflow_cast-result
+overflow_cast-result c =
+    let s = c.before.before in
+    let x = s.args in
+    record { fits = omega (arith, c.round_down.ensures, down_within (10 * x.p.max.0) x.volts, s.requires.max) }

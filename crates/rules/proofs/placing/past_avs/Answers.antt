@@ -1,0 +1,18 @@
+-- `rules::placing::past_avs` meets its contract: one place further above 27 W.
+-- Assumes nothing.
+use mathlib.Core.Path.{sym, ap, ◌∙◌}
+use Prim.Native.Nat.{ℕ, ◌+◌}
+use Rattle.rules.proofs.TableWalk.{avs_stands, avs_on, avs_skipped}
+use Rattle.rules.proofs.Places.{to_seventh}
+use borrow.Author.Rules.{rules}
+use Rattle.rules.proofs.placing.past_avs.Goals as goal
+
+pub returns-then-max : goal.returns-then-max
+returns-then-max c =
+    let s = c.before.before.before in
+    s.requires.1 ∙ sym (avs_skipped s.args.max.0 c.if-max.true)
+
+pub returns : goal.returns
+returns c =
+    let s = c.before.before.before in
+    ap (λ (n : ℕ). n + 1) s.requires.1 ∙ sym (avs_on s.args.max.0 c.if-max.false)
