@@ -4,7 +4,6 @@ use mathlib.Core.Path.{ap, ◌∙◌}
 use Rattle.objects.specs.declared.Object.TheVariants as object
 use Rattle.objects.proofs.Saying.{encoded_is}
 use Rattle.lists.specs.Writing.{word_in}
-use borrow.Author.Rules.{rules}
 use Rattle.rules.proofs.building.avs_with.Goals as goal
 
 pub returns : goal.returns

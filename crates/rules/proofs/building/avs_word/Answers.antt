@@ -2,7 +2,6 @@
 -- Assumes nothing.
 use mathlib.Core.Path.{◌∙◌}
 use Rattle.rules.proofs.PutDown.{avs_is}
-use borrow.Author.Rules.{rules}
 use Rattle.rules.proofs.building.avs_word.Goals as goal
 
 pub returns : goal.returns

@@ -13,7 +13,6 @@ use Rattle.lists.specs.Writing.{write_refused}
 use Rattle.rules.specs.Profiles.{profile_refusals}
 use Rattle.rules.proofs.ProfileCases.{profile_numbered, max_high, within_bounds_lem}
 use Rattle.rules.proofs.Builds.{build_refused, build_6, build_done, built_count_high}
-use borrow.Author.Rules.{rules}
 use Rattle.rules.proofs.building.build.Goals as goal
 use Rattle.rules.proofs.building.build.Goals.{Else-verdict-ne-SUCCESS}
 

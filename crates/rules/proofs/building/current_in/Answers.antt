@@ -1,6 +1,6 @@
 -- `rules::building::current_in` meets its contract: the law `taken-low` at bits 9..0.
 -- Assumes nothing.
-use Rattle.objects.proofs.Taking.{taken_low, low_fits}
+use Rattle.objects.proofs.Taking.{taken_low}
 use Rattle.rules.proofs.building.current_in.Goals as goal
 
 pub returns : goal.returns

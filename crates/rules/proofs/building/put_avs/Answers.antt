@@ -3,10 +3,8 @@
 use mathlib.Core.Path.{◌∙◌}
 use borrow.Author.Tests.{lt-ltb, le-ltb}
 use Rattle.rules.proofs.ProfileCases.{max_high}
-use Rattle.rules.proofs.TableWalk.{avs_stands}
-use Rattle.rules.proofs.PutDown.{put_so, put_not, avs_put, room}
+use Rattle.rules.proofs.PutDown.{put_so, put_not, avs_put}
 use Rattle.rules.proofs.OwnPlaces.{avs_beside}
-use borrow.Author.Rules.{rules}
 use Rattle.rules.proofs.building.put_avs.Goals as goal
 
 pub returns-then-p : goal.returns-then-p

@@ -1,8 +1,7 @@
 -- `rules::building::put_supply` meets its contract: its word, where the row holds M.
 -- Assumes nothing.
 use mathlib.Core.Path.{sym, ◌∙◌}
-use Rattle.rules.proofs.PutDown.{put_so, put_not, prog_anywhere}
-use borrow.Author.Rules.{rules}
+use Rattle.rules.proofs.PutDown.{put_so, prog_anywhere}
 use Rattle.rules.proofs.building.put_supply.Goals as goal
 
 pub returns-then-between : goal.returns-then-between

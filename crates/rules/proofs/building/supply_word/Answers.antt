@@ -7,7 +7,6 @@ use Rattle.objects.specs.Encode.{encode_of}
 use Rattle.objects.proofs.Saying.{encoded_is}
 use Rattle.lists.specs.Writing.{word_in}
 use Rattle.rules.specs.Building.{object_for}
-use borrow.Author.Rules.{rules}
 use Rattle.rules.proofs.building.supply_word.Goals as goal
 
 pub returns : goal.returns

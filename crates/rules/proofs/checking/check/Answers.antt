@@ -18,7 +18,6 @@ use Rattle.rules.proofs.WalkDecides.{without_pps, with_pps, wrong_below, wrong_b
 use Rattle.rules.proofs.Steps.{avs_followed}
 use Rattle.rules.proofs.Followed.{at_most_8}
 use lib.ListN.{length}
-use borrow.Author.Rules.{rules}
 use Rattle.rules.proofs.checking.check.Goals as goal
 use Rattle.rules.proofs.checking.check.Goals.{After-follow_avs-base, Else-profile-ne-SUCCESS, Else-shape-ne-SUCCESS, Start}
 

@@ -1,9 +1,8 @@
 -- `rules::checking::find_avs` meets its contract: the kind, and whether there is a second current.
 -- Assumes nothing.
-use mathlib.Core.Path.{◌≡◌, refl, ap, sym, ◌∙◌}
+use mathlib.Core.Path.{refl, ap, sym, ◌∙◌}
 use mathlib.Core.Bool.{false}
 use lib.Dec.{ltb}
-use Rattle.objects.specs.declared.Object.TheVariants as object
 use Rattle.objects.specs.declared.Decoded.TheVariants.{Known}
 use Rattle.rules.specs.Tables.{Avs}
 use Rattle.rules.specs.Sets.{fits}
@@ -11,7 +10,6 @@ use Rattle.rules.specs.Checking.{current_refused}
 use Rattle.rules.specs.Following.{found_of}
 use Rattle.rules.proofs.OtherKinds.{avs_only}
 use Rattle.rules.proofs.Steps.{found_none, found_other, found_right}
-use borrow.Author.Rules.{rules}
 use Rattle.rules.proofs.checking.find_avs.Goals as goal
 
 pub returns-in_default : goal.returns-in_default

@@ -1,9 +1,8 @@
 -- `rules::checking::find_rail` meets its contract: the kind, the voltage, the current.
 -- Assumes nothing.
-use mathlib.Core.Path.{◌≡◌, ap, sym, ◌∙◌}
+use mathlib.Core.Path.{ap, sym, ◌∙◌}
 use mathlib.Core.Bool.{true, false, not}
 use borrow.Author.Tests.{eq-eqb, ne_eqb}
-use Rattle.objects.specs.declared.Object.TheVariants as object
 use Rattle.objects.specs.declared.Decoded.TheVariants.{Known}
 use Rattle.rules.specs.Tables.{Fixed}
 use Rattle.rules.specs.Sets.{fits}
@@ -11,7 +10,6 @@ use Rattle.rules.specs.Checking.{current_refused}
 use Rattle.rules.specs.Following.{found_of}
 use Rattle.rules.proofs.OtherKinds.{fixed_only}
 use Rattle.rules.proofs.Steps.{found_none, found_other, found_right, fits_fixed}
-use borrow.Author.Rules.{rules}
 use Rattle.rules.proofs.checking.find_rail.Goals as goal
 
 pub returns-in_default : goal.returns-in_default

@@ -1,10 +1,9 @@
 -- `rules::checking::find_supply` meets its contract: the kind, both ends of the range, the current.
 -- Assumes nothing.
-use mathlib.Core.Path.{◌≡◌, ap, ap₂, sym, ◌∙◌}
+use mathlib.Core.Path.{ap, ap₂, sym, ◌∙◌}
 use mathlib.Core.Bool.{Bool, true, false, not, ◌&&◌}
 use borrow.Author.Tests.{eq-eqb, ne_eqb}
 use lib.Dec.{eqb}
-use Rattle.objects.specs.declared.Object.TheVariants as object
 use Rattle.objects.specs.declared.Decoded.TheVariants.{Known}
 use Rattle.rules.specs.Tables.{Prog}
 use Rattle.rules.specs.Sets.{fits}
@@ -12,7 +11,6 @@ use Rattle.rules.specs.Checking.{current_refused}
 use Rattle.rules.specs.Following.{found_of}
 use Rattle.rules.proofs.OtherKinds.{pps_only}
 use Rattle.rules.proofs.Steps.{found_none, found_other, found_right, fits_pps}
-use borrow.Author.Rules.{rules}
 use Rattle.rules.proofs.checking.find_supply.Goals as goal
 
 pub returns-in_default : goal.returns-in_default

@@ -1,11 +1,10 @@
 -- `rules::checking::follow_avs` meets its contract: above 27 W one step, by what stands there.
 -- Assumes nothing.
 use mathlib.Core.Path.{◌∙◌}
-use borrow.Author.Tests.{lt-ltb, le-ltb}
+use borrow.Author.Tests.{lt-ltb}
 use lib.Dec.{ltb}
 use Rattle.rules.specs.Tables.{Avs}
-use Rattle.rules.proofs.Steps.{step_is, step_so, step_not}
-use borrow.Author.Rules.{rules}
+use Rattle.rules.proofs.Steps.{step_is, step_so}
 use Rattle.rules.proofs.checking.follow_avs.Goals as goal
 
 pub returns : goal.returns

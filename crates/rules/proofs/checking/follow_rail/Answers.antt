@@ -1,10 +1,9 @@
 -- `rules::checking::follow_rail` meets its contract: one step where M exceeds the row, by what stands there.
 -- Assumes nothing.
 use mathlib.Core.Path.{◌∙◌}
-use borrow.Author.Tests.{lt-ltb, le-ltb}
+use borrow.Author.Tests.{lt-ltb}
 use Rattle.rules.specs.Tables.{Fixed}
-use Rattle.rules.proofs.Steps.{step_is, step_so, step_not}
-use borrow.Author.Rules.{rules}
+use Rattle.rules.proofs.Steps.{step_is, step_so}
 use Rattle.rules.proofs.checking.follow_rail.Goals as goal
 
 pub returns : goal.returns

@@ -1,14 +1,9 @@
 -- `rules::checking::follow_rails` meets its contract: the invariant is that the rows passed are followed.
 -- Assumes nothing.
-use borrow.Author.Rules.{rules}
-use mathlib.Core.Path.{◌≡◌, ap, sym, ◌∙◌, subst}
-use Prim.Native.Nat.{ℕ, ◌-◌, ◌≤◌}
-use native.Mathlib.Omega.{arith}
-use Rattle.rules.specs.declared.checking.Walk.{Walk}
+use mathlib.Core.Path.{◌≡◌}
+use Prim.Native.Nat.{◌-◌, ◌≤◌}
 use Rattle.rules.specs.Following.{followed}
-use Rattle.rules.proofs.TableWalk.{rails_to, rail_volts_above_0, rail_volts}
-use Rattle.rules.proofs.Steps.{none_followed, rail_followed}
-use Rattle.rules.proofs.Followed.{at_most_8}
+use Rattle.rules.proofs.TableWalk.{rails_to}
 use Rattle.rules.proofs.checking.follow_rails.Given as goal
 
 abbrev pub invariant-loop-i : goal.invariant-loop-i

@@ -1,12 +1,11 @@
 -- `rules::checking::follow_supplies` meets its contract: the invariant is that the rows passed are followed.
 -- Assumes nothing.
-use borrow.Author.Rules.{rules}
 use mathlib.Core.Path.{◌≡◌, ap, sym, ◌∙◌, subst}
-use Prim.Native.Nat.{ℕ, ◌-◌, ◌≤◌}
+use Prim.Native.Nat.{ℕ, ◌≤◌}
 use native.Mathlib.Omega.{arith}
 use Rattle.rules.specs.declared.checking.Walk.{Walk}
 use Rattle.rules.specs.Following.{followed}
-use Rattle.rules.proofs.TableWalk.{supplies_to, no_supplies, all_supplies}
+use Rattle.rules.proofs.TableWalk.{supplies_to, all_supplies}
 use Rattle.rules.proofs.Steps.{supply_followed}
 use Rattle.rules.proofs.Followed.{at_most_8}
 use Rattle.rules.proofs.checking.follow_supplies.Goals as goal

@@ -2,8 +2,7 @@
 -- Assumes nothing.
 use mathlib.Core.Path.{sym, ◌∙◌}
 use Rattle.rules.specs.Tables.{Prog}
-use Rattle.rules.proofs.Steps.{step_is, step_so, step_not}
-use borrow.Author.Rules.{rules}
+use Rattle.rules.proofs.Steps.{step_is, step_so}
 use Rattle.rules.proofs.checking.follow_supply.Goals as goal
 
 pub returns-then-between : goal.returns-then-between

@@ -3,7 +3,6 @@
 use mathlib.Core.Path.{sym, ◌∙◌}
 use Rattle.objects.proofs.Saying.{decoded_is}
 use Rattle.rules.proofs.Steps.{counted, past}
-use borrow.Author.Rules.{rules}
 use Rattle.rules.proofs.checking.object_at.Goals as goal
 
 pub returns-then-at-list : goal.returns-then-at-list

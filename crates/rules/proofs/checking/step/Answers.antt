@@ -3,7 +3,6 @@
 use mathlib.Core.Path.{ap, sym, ◌∙◌}
 use Rattle.rules.specs.Following.{step_by}
 use Rattle.rules.proofs.Steps.{step_lost, step_fine, step_kept, step_first}
-use borrow.Author.Rules.{rules}
 use Rattle.rules.proofs.checking.step.Goals as goal
 
 pub returns-then-verdict-ne-SUCCESS : goal.returns-then-verdict-ne-SUCCESS

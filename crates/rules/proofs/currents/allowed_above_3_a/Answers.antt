@@ -1,10 +1,7 @@
 -- `rules::currents::allowed_above_3_a` meets its contract: what 3 A and the cable decide, then the quotient.
 -- Assumes nothing.
-use mathlib.Core.Path.{ap, ◌∙◌, subst}
-use Prim.Native.Nat.{ℕ, ◌≤◌, ◌<◌}
-use lib.Dec.{leb}
-use Rattle.rules.proofs.Allowed.{up_from_3_A, under_low, past_cable, just_low, by_quotient}
-use borrow.Author.Rules.{rules}
+use mathlib.Core.Path.{◌∙◌}
+use Rattle.rules.proofs.Allowed.{up_from_3_A, just_low}
 use Rattle.rules.proofs.currents.allowed_above_3_a.Goals as goal
 
 pub returns-then-current-low-2 : goal.returns-then-current-low-2

@@ -5,7 +5,6 @@ use native.Mathlib.Omega.{arith}
 use Prim.Native.Nat.{◌*◌}
 use Rattle.steps.specs.declared.Roundings.{Roundings}
 use Rattle.steps.proofs.RoundingLaws.{down_within, up_within}
-use borrow.Author.Rules.{rules}
 use Rattle.rules.proofs.currents.both_at.Goals as goal
 
 pub overflow_cast-result : goal.overflow_cast-result

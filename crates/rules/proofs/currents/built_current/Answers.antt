@@ -4,7 +4,6 @@ use mathlib.Core.Path.{ap₂, sym, ◌∙◌}
 use Prim.Native.Nat.{min}
 use Rattle.rules.specs.Currents.{down_at, up_at, built_current}
 use Rattle.rules.proofs.Exceeding.{rounds_down, rounds_up}
-use borrow.Author.Rules.{rules}
 use Rattle.rules.proofs.currents.built_current.Goals as goal
 
 pub returns-then-p-eq0 : goal.returns-then-p-eq0

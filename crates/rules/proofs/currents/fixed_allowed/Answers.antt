@@ -1,9 +1,7 @@
 -- `rules::currents::fixed_allowed` meets its contract: by whether P is above 3 A.
 -- Assumes nothing.
-use mathlib.Core.Path.{◌≡◌, sym, ◌∙◌}
-use Prim.Native.Nat.{◌*◌, ◌<◌}
-use Rattle.rules.proofs.Allowed.{above_3_A_means, above_3_A_lem, not_above_3_A}
-use borrow.Author.Rules.{rules}
+use mathlib.Core.Path.{sym, ◌∙◌}
+use Rattle.rules.proofs.Allowed.{above_3_A_lem, not_above_3_A}
 use Rattle.rules.proofs.currents.fixed_allowed.Goals as goal
 
 pub returns-then-above_3_a : goal.returns-then-above_3_a

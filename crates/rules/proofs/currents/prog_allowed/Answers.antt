@@ -5,7 +5,6 @@ use Prim.Native.Nat.{ℕ, ◌≤◌, ◌<◌, min}
 use lib.Dec.{leb}
 use Rattle.rules.specs.Currents.{prog_current}
 use Rattle.rules.proofs.Allowed.{built_figure, not_above, below_built, by_cable}
-use borrow.Author.Rules.{rules}
 use Rattle.rules.proofs.currents.prog_allowed.Goals as goal
 
 pub returns-then-current-built : goal.returns-then-current-built

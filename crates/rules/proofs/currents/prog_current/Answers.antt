@@ -3,7 +3,6 @@
 use mathlib.Core.Path.{ap₂, ◌∙◌}
 use Prim.Native.Nat.{min}
 use Rattle.rules.specs.Currents.{prog_current}
-use borrow.Author.Rules.{rules}
 use Rattle.rules.proofs.currents.prog_current.Goals as goal
 
 pub returns : goal.returns

@@ -3,7 +3,6 @@
 use native.Mathlib.Omega.{arith}
 use Prim.Native.Nat.{◌*◌}
 use Rattle.steps.proofs.RoundingLaws.{down_within}
-use borrow.Author.Rules.{rules}
 use Rattle.rules.proofs.currents.prog_down.Goals as goal
 
 pub overflow_cast-result : goal.overflow_cast-result

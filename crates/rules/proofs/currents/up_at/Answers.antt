@@ -3,7 +3,6 @@
 use native.Mathlib.Omega.{arith}
 use Prim.Native.Nat.{◌*◌}
 use Rattle.steps.proofs.RoundingLaws.{up_within}
-use borrow.Author.Rules.{rules}
 use Rattle.rules.proofs.currents.up_at.Goals as goal
 
 pub overflow_cast-result : goal.overflow_cast-result

@@ -2,9 +2,7 @@
 -- Assumes nothing.
 use mathlib.Core.Path.{sym, ap, ◌∙◌}
 use Prim.Native.Nat.{ℕ, ◌+◌}
-use Rattle.rules.proofs.TableWalk.{avs_stands, avs_on, avs_skipped}
-use Rattle.rules.proofs.Places.{to_seventh}
-use borrow.Author.Rules.{rules}
+use Rattle.rules.proofs.TableWalk.{avs_on, avs_skipped}
 use Rattle.rules.proofs.placing.past_avs.Goals as goal
 
 pub returns-then-max : goal.returns-then-max

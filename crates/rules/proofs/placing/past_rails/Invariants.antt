@@ -1,11 +1,8 @@
 -- `rules::placing::past_rails` meets its contract: the invariant is the place after the rows passed.
 -- Assumes nothing.
-use mathlib.Core.Path.{◌≡◌, refl, ap, ◌∙◌}
+use mathlib.Core.Path.{◌≡◌}
 use Prim.Native.Nat.{◌-◌, ◌≤◌}
-use native.Mathlib.Omega.{arith}
-use Rattle.rules.proofs.TableWalk.{rails_to, rail_stands}
-use Rattle.rules.proofs.Places.{rail_past, to_seventh}
-use borrow.Author.Rules.{rules}
+use Rattle.rules.proofs.TableWalk.{rails_to}
 use Rattle.rules.proofs.placing.past_rails.Given as goal
 
 abbrev pub invariant-loop-i : goal.invariant-loop-i

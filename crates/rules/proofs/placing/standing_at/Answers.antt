@@ -1,13 +1,11 @@
 -- `rules::placing::standing_at` meets its contract: the fixed part, AVS, then the supplies that are wanted.
 -- Assumes nothing.
-use mathlib.Core.Path.{sym, ap, ◌∙◌, subst}
+use mathlib.Core.Path.{sym, ◌∙◌, subst}
 use Prim.Native.Nat.{ℕ, ◌≤◌, ◌<◌}
 use Rattle.rules.specs.Building.{built_count}
-use Rattle.rules.specs.Placing.{full_at}
-use Rattle.rules.proofs.TableWalk.{rail_volts, after_rails}
+use Rattle.rules.proofs.TableWalk.{after_rails}
 use Rattle.rules.proofs.PutDown.{avs_anywhere}
-use Rattle.rules.proofs.Places.{rail_there, rail_at, rails_in_base, avs_at, word_there, none_there, with_pps, without_pps, base_counted}
-use borrow.Author.Rules.{rules}
+use Rattle.rules.proofs.Places.{rail_at, rails_in_base, avs_at, word_there, none_there, without_pps, base_counted}
 use Rattle.rules.proofs.placing.standing_at.Goals as goal
 use Rattle.rules.proofs.placing.standing_at.Goals.{Then-asked-rails}
 

@@ -1,14 +1,8 @@
 -- `rules::placing::supply_at` meets its contract: the invariant is the place after the rows passed, and that the one asked for is not among them.
 -- Assumes nothing.
-use mathlib.Core.Path.{◌≡◌, sym, ap, ◌∙◌, subst}
-use Prim.Native.Nat.{ℕ, ◌-◌, ◌≤◌}
-use native.Mathlib.Omega.{arith}
-use lib.ListN.{length}
-use Rattle.rules.specs.Tables.{slots}
-use Rattle.rules.proofs.TableWalk.{supplies_to, no_supplies, all_supplies, supply_stands}
-use Rattle.rules.proofs.PutDown.{prog_anywhere}
-use Rattle.rules.proofs.Places.{supply_past, not_passed, to_seventh, supply_at, word_there, none_there}
-use borrow.Author.Rules.{rules}
+use mathlib.Core.Path.{◌≡◌}
+use Prim.Native.Nat.{◌-◌, ◌≤◌}
+use Rattle.rules.proofs.TableWalk.{supplies_to}
 use Rattle.rules.proofs.placing.supply_at.Given as goal
 
 abbrev pub invariant-loop-i : goal.invariant-loop-i

@@ -14,8 +14,7 @@ use Rattle.rules.specs.Placing.{placed_in, placed_says, place_says}
 use Rattle.rules.proofs.ProfileCases.{profile_numbered, max_high, within_bounds_lem}
 use Rattle.rules.proofs.Builds.{build_refused, build_6, build_done, built_count_high}
 use Rattle.rules.proofs.Saying.{place_says_lem}
-use Rattle.rules.proofs.Places.{place_0, none_placed, placed_there}
-use borrow.Author.Rules.{rules}
+use Rattle.rules.proofs.Places.{none_placed, placed_there}
 use Rattle.rules.proofs.placing.word_at.Goals as goal
 use Rattle.rules.proofs.placing.word_at.Goals.{Else-verdict-ne-SUCCESS}
 

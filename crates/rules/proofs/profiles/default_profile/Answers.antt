@@ -4,7 +4,6 @@ use mathlib.Core.Path.{sym, ◌∙◌}
 use mathlib.Core.List.{[]}
 use Rattle.verdicts.proofs.First.{hit, all_missed}
 use Rattle.rules.specs.Profiles.{profile_refused, default_of}
-use borrow.Author.Rules.{rules}
 use Rattle.rules.proofs.profiles.default_profile.Goals as goal
 
 pub returns-then-outside : goal.returns-then-outside

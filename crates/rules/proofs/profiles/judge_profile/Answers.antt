@@ -4,7 +4,6 @@ use mathlib.Core.Path.{ap, sym, ◌∙◌}
 use Prim.Native.Nat.{ℕ}
 use Rattle.verdicts.specs.Refusals.{verdict}
 use Rattle.rules.proofs.ProfileCases.{place_0}
-use borrow.Author.Rules.{rules}
 use Rattle.rules.proofs.profiles.judge_profile.Goals as goal
 
 pub returns : goal.returns

@@ -8,7 +8,6 @@ use Rattle.verdicts.specs.declared.Verdict.{Verdict}
 use Rattle.rules.specs.Profiles.{bad_cable}
 use Rattle.steps.specs.Ranges.{within}
 use Rattle.rules.proofs.ProfileCases.{fault_1, fault_2, fault_3, fault_4, fault_5, no_fault}
-use borrow.Author.Rules.{rules}
 use Rattle.rules.proofs.profiles.profile_fault.Goals as goal
 use Rattle.rules.proofs.profiles.profile_fault.Goals.{Else-bad_cable, Else-outside, Else-outside-2, Else-pps-gt1, Start}
 
