@@ -9,18 +9,12 @@ use Rattle.rules.proofs.building.put_avs.Goals as goal
 
 pub returns-then-p : goal.returns-then-p
 returns-then-p c =
-    let s = c.before.before.before in
-    avs_put s.args.p (max_high s.args.p s.requires.0) s.requires.1 (put_not (le-ltb 54 _ c.if-p.true))
+    avs_put c.args.p (max_high c.args.p c.requires.0) c.requires.1 (put_not (le-ltb 54 _ c.if-p.true))
 
 pub returns : goal.returns
 returns c =
-    let w = c.before.before in
-    let h = w.before in
-    let l = h.before.before in
-    let n = l.before.before in
-    let s = n.before.before.before in
-    let p = s.args.p in
-    avs_put p (max_high p s.requires.0) s.requires.1
-    (put_so (lt-ltb 54 _ n.if-p.false)
-    (w.avs_with-word.ensures ∙ avs_beside p s.requires.0 n.if-p.false s.requires.1 _ _ _ l.current_in-low.ensures h.current_in-high.ensures)
+    let p = c.args.p in
+    avs_put p (max_high p c.requires.0) c.requires.1
+    (put_so (lt-ltb 54 _ c.if-p.false)
+    (c.avs_with-word.ensures ∙ avs_beside p c.requires.0 c.if-p.false c.requires.1 _ _ _ c.current_in-low.ensures c.current_in-high.ensures)
     c.put.ensures.0 c.put.ensures.1)

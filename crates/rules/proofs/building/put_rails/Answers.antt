@@ -10,6 +10,4 @@ loop-i-init c = (search rules, none_put c.args.p _ c.requires.1)
 
 pub loop-i-preserved : goal.loop-i-preserved
 loop-i-preserved c =
-    let n = c.before.before.before in
-    let s = n.before in
-    (omega arith, rail_put s.args.p s.requires.0.max s.loop-i.i n.loop-i-test.true s.loop-i.invariant.1 c.put_rail-at.ensures)
+    (omega arith, rail_put c.args.p c.requires.0.max c.loop-i.i c.loop-i-test.true c.loop-i.invariant.1 c.put_rail-at.ensures)

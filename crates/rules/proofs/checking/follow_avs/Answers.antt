@@ -9,7 +9,6 @@ use Rattle.rules.proofs.checking.follow_avs.Goals as goal
 
 pub returns : goal.returns
 returns c =
-    let n = c.before.before.before in
-    let x = n.args in
-    step_so x.p x.list (Avs (ltb 90 x.p.max.0)) x.walk (lt-ltb 54 _ n.if-p.false)
+    let x = c.args in
+    step_so x.p x.list (Avs (ltb 90 x.p.max.0)) x.walk (lt-ltb 54 _ c.if-p.false)
     (c.step.ensures ∙ step_is x.p x.list (Avs (ltb 90 x.p.max.0)) x.walk _ _ c.object_at-d.ensures c.find_avs-found.ensures)

@@ -8,7 +8,6 @@ use Rattle.rules.proofs.checking.follow_rail.Goals as goal
 
 pub returns : goal.returns
 returns c =
-    let n = c.before.before.before in
-    let x = n.args in
-    step_so x.p x.list (Fixed x.row.volts) x.walk (lt-ltb _ _ n.if-p-row.false)
+    let x = c.args in
+    step_so x.p x.list (Fixed x.row.volts) x.walk (lt-ltb _ _ c.if-p-row.false)
     (c.step.ensures ∙ step_is x.p x.list (Fixed x.row.volts) x.walk _ _ c.object_at-d.ensures c.find_rail-found.ensures)

@@ -15,19 +15,16 @@ loop-i-init c = (search rules, none_followed c.args.p c.args.list)
 
 pub follow_rail-walk-requires : goal.follow_rail-walk-requires
 follow_rail-walk-requires c =
-    let s = c.before.before in
-    let x = s.args in
-    let seven = s.requires.1 in (
-      s.requires.0,
+    let x = c.args in
+    let seven = c.requires.1 in (
+      c.requires.0,
       seven,
-      rail_volts_above_0 s.loop-i.i c.loop-i-test.true,
-      rail_volts s.loop-i.i,
-      subst (λ (w : Walk). w.at ≤ 8) (sym s.loop-i.invariant.1) (at_most_8 x.p x.list seven _),
+      rail_volts_above_0 c.loop-i.i c.loop-i-test.true,
+      rail_volts c.loop-i.i,
+      subst (λ (w : Walk). w.at ≤ 8) (sym c.loop-i.invariant.1) (at_most_8 x.p x.list seven _),
     )
 
 pub loop-i-preserved : goal.loop-i-preserved
 loop-i-preserved c =
-    let n = c.before.before in
-    let s = n.before in
-    let x = s.args in
-    (omega arith, c.follow_rail-walk.ensures ∙ rail_followed x.p x.list s.loop-i.walk s.loop-i.i n.loop-i-test.true s.loop-i.invariant.1)
+    let x = c.args in
+    (omega arith, c.follow_rail-walk.ensures ∙ rail_followed x.p x.list c.loop-i.walk c.loop-i.i c.loop-i-test.true c.loop-i.invariant.1)

@@ -12,25 +12,21 @@ use Rattle.rules.proofs.checking.follow_supplies.Goals as goal
 
 pub follow_supply-walk-requires : goal.follow_supply-walk-requires
 follow_supply-walk-requires c =
-    let s = c.before.before in
-    let x = s.args in
-    let seven = s.requires.1 in
-    (s.requires.0, seven, subst (λ (w : Walk). w.at ≤ 8) (sym s.loop-i.invariant.1) (at_most_8 x.p x.list seven _))
+    let x = c.args in
+    let seven = c.requires.1 in
+    (c.requires.0, seven, subst (λ (w : Walk). w.at ≤ 8) (sym c.loop-i.invariant.1) (at_most_8 x.p x.list seven _))
 
 pub loop-i-preserved : goal.loop-i-preserved
 loop-i-preserved c =
-    let n = c.before.before in
-    let s = n.before in
-    let x = s.args in (
+    let x = c.args in (
       omega arith,
       c.follow_supply-walk.ensures
-          ∙ supply_followed x.p x.list s.loop-i.walk s.requires.0.max s.loop-i.i n.loop-i-test.true s.loop-i.invariant.1,
+          ∙ supply_followed x.p x.list c.loop-i.walk c.requires.0.max c.loop-i.i c.loop-i-test.true c.loop-i.invariant.1,
     )
 
 pub returns : goal.returns
 returns c =
-    let s = c.before in
-    let x = s.args in
-    let e : s.loop-i.i ≡ 3 = omega arith in
-    s.loop-i.invariant.1 ∙ ap (λ (i : ℕ). followed x.p x.list (supplies_to x.p.max.0 i)) e
-    ∙ ap (followed x.p x.list) (all_supplies x.p.max.0 s.requires.0.max)
+    let x = c.args in
+    let e : c.loop-i.i ≡ 3 = omega arith in
+    c.loop-i.invariant.1 ∙ ap (λ (i : ℕ). followed x.p x.list (supplies_to x.p.max.0 i)) e
+    ∙ ap (followed x.p x.list) (all_supplies x.p.max.0 c.requires.0.max)

@@ -7,7 +7,6 @@ use Rattle.rules.proofs.checking.follow_supply.Goals as goal
 
 pub returns-then-between : goal.returns-then-between
 returns-then-between c =
-    let t = c.before.before.before in
-    let x = t.args in
-    step_so x.p x.list (Prog x.row.volts x.row.top.0) x.walk (sym t.between.ensures ∙ t.if-between.true)
+    let x = c.args in
+    step_so x.p x.list (Prog x.row.volts x.row.top.0) x.walk (sym c.between.ensures ∙ c.if-between.true)
     (c.step.ensures ∙ step_is x.p x.list (Prog x.row.volts x.row.top.0) x.walk _ _ c.object_at-d.ensures c.find_supply-found.ensures)

@@ -7,9 +7,8 @@ use Rattle.rules.proofs.checking.step.Goals as goal
 
 pub returns-then-verdict-ne-SUCCESS : goal.returns-then-verdict-ne-SUCCESS
 returns-then-verdict-ne-SUCCESS c =
-    let f = c.before.before in
-    let x = f.args in
-    step_kept x.walk c.if-verdict-ne-SUCCESS.true ∙ ap (step_by x.walk) (sym f.in-NotAllowed.is)
+    let x = c.args in
+    step_kept x.walk c.if-verdict-ne-SUCCESS.true ∙ ap (step_by x.walk) (sym c.in-NotAllowed.is)
 
 pub returns-in-Other : goal.returns-in-Other
 returns-in-Other c =
@@ -23,6 +22,5 @@ returns-in-Allowed c =
 
 pub returns-else-verdict-ne-SUCCESS : goal.returns-else-verdict-ne-SUCCESS
 returns-else-verdict-ne-SUCCESS c =
-    let f = c.before.before in
-    let x = f.args in
-    step_first x.walk c.if-verdict-ne-SUCCESS.false ∙ ap (step_by x.walk) (sym f.in-NotAllowed.is)
+    let x = c.args in
+    step_first x.walk c.if-verdict-ne-SUCCESS.false ∙ ap (step_by x.walk) (sym c.in-NotAllowed.is)

@@ -9,12 +9,10 @@ use Rattle.rules.proofs.currents.both_at.Goals as goal
 
 pub overflow_cast-result : goal.overflow_cast-result
 overflow_cast-result c =
-    let s = c.before.before.before in
-    let x = s.args in
-    record { fits = omega (arith, ap (λ (r : Roundings). r.down) c.round_both-both.ensures, down_within (50 * x.p.present.0) x.volts, s.requires.present) }
+    let x = c.args in
+    record { fits = omega (arith, ap (λ (r : Roundings). r.down) c.round_both-both.ensures, down_within (50 * x.p.present.0) x.volts, c.requires.present) }
 
 pub overflow_cast-result-2 : goal.overflow_cast-result-2
 overflow_cast-result-2 c =
-    let s = c.before.before.before.before in
-    let x = s.args in
-    record { fits = omega (arith, ap (λ (r : Roundings). r.up) c.round_both-both.ensures, up_within (50 * x.p.present.0) x.volts, s.requires.present) }
+    let x = c.args in
+    record { fits = omega (arith, ap (λ (r : Roundings). r.up) c.round_both-both.ensures, up_within (50 * x.p.present.0) x.volts, c.requires.present) }

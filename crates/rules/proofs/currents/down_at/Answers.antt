@@ -7,6 +7,5 @@ use Rattle.rules.proofs.currents.down_at.Goals as goal
 
 pub overflow_cast-result : goal.overflow_cast-result
 overflow_cast-result c =
-    let s = c.before.before in
-    let x = s.args in
-    record { fits = omega (arith, c.round_down.ensures, down_within (50 * x.p.present.0) x.volts, s.requires.present) }
+    let x = c.args in
+    record { fits = omega (arith, c.round_down.ensures, down_within (50 * x.p.present.0) x.volts, c.requires.present) }

@@ -6,13 +6,11 @@ use Rattle.rules.proofs.currents.fixed_allowed.Goals as goal
 
 pub returns-then-above_3_a : goal.returns-then-above_3_a
 returns-then-above_3_a c =
-    let t = c.before in
-    let x = t.args in
-    c.allowed_above_3_a.ensures ∙ sym (above_3_A_lem x.p x.volts x.current.0 (sym t.above_3_a.ensures ∙ t.if-above_3_a.true))
+    let x = c.args in
+    c.allowed_above_3_a.ensures ∙ sym (above_3_A_lem x.p x.volts x.current.0 (sym c.above_3_a.ensures ∙ c.if-above_3_a.true))
 
 pub returns : goal.returns
 returns c =
-    let e = c.before in
-    let x = e.args in
+    let x = c.args in
     c.either_rounding.ensures
-    ∙ sym (not_above_3_A x.p x.volts x.current.0 (sym e.above_3_a.ensures ∙ e.if-above_3_a.false))
+    ∙ sym (not_above_3_A x.p x.volts x.current.0 (sym c.above_3_a.ensures ∙ c.if-above_3_a.false))

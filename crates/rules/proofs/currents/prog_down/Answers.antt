@@ -7,6 +7,5 @@ use Rattle.rules.proofs.currents.prog_down.Goals as goal
 
 pub overflow_cast-result : goal.overflow_cast-result
 overflow_cast-result c =
-    let s = c.before.before in
-    let x = s.args in
-    record { fits = omega (arith, c.round_down.ensures, down_within (10 * x.p.max.0) x.volts, s.requires.max) }
+    let x = c.args in
+    record { fits = omega (arith, c.round_down.ensures, down_within (10 * x.p.max.0) x.volts, c.requires.max) }

@@ -7,10 +7,8 @@ use Rattle.rules.proofs.placing.past_avs.Goals as goal
 
 pub returns-then-max : goal.returns-then-max
 returns-then-max c =
-    let s = c.before.before.before in
-    s.requires.1 ∙ sym (avs_skipped s.args.max.0 c.if-max.true)
+    c.requires.1 ∙ sym (avs_skipped c.args.max.0 c.if-max.true)
 
 pub returns : goal.returns
 returns c =
-    let s = c.before.before.before in
-    ap (λ (n : ℕ). n + 1) s.requires.1 ∙ sym (avs_on s.args.max.0 c.if-max.false)
+    ap (λ (n : ℕ). n + 1) c.requires.1 ∙ sym (avs_on c.args.max.0 c.if-max.false)

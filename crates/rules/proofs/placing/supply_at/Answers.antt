@@ -12,40 +12,31 @@ use Rattle.rules.proofs.placing.supply_at.Goals as goal
 
 pub returns-then-stands_there : goal.returns-then-stands_there
 returns-then-stands_there c =
-    let b = c.before.before in
-    let n = b.before.before in
-    let s = n.before in
-    let p = s.args.p in
+    let p = c.args.p in
     let m = p.max.0 in
-    let st = supply_at m s.loop-i.i _ _ s.requires.0.max n.loop-i-test.true s.loop-i.invariant.1
-    (sym b.stands_there.ensures ∙ c.if-stands_there.true) in
-    word_there p (length (slots m)) s.args.asked _ _ st st.within (c.supply_word.ensures ∙ prog_anywhere p _ _ _)
+    let st = supply_at m c.loop-i.i _ _ c.requires.0.max c.loop-i-test.true c.loop-i.invariant.1
+    (sym c.stands_there.ensures ∙ c.if-stands_there.true) in
+    word_there p (length (slots m)) c.args.asked _ _ st st.within (c.supply_word.ensures ∙ prog_anywhere p _ _ _)
 
 pub past_supply-at-requires : goal.past_supply-at-requires
 past_supply-at-requires c =
-    let n = c.before.before.before in
-    let s = n.before in
-    let m = s.args.p.max.0 in
-    let high = s.requires.0.max in
-    λ t. to_seventh m _ _ _ high s.loop-i.invariant.1 (supply_stands m high s.loop-i.i n.loop-i-test.true t)
+    let m = c.args.p.max.0 in
+    let high = c.requires.0.max in
+    λ t. to_seventh m _ _ _ high c.loop-i.invariant.1 (supply_stands m high c.loop-i.i c.loop-i-test.true t)
 
 pub loop-i-preserved : goal.loop-i-preserved
 loop-i-preserved c =
-    let b = c.before.before in
-    let n = b.before.before in
-    let s = n.before in
-    let m = s.args.p.max.0 in
-    let none = sym b.stands_there.ensures ∙ c.if-stands_there.false in (
+    let m = c.args.p.max.0 in
+    let none = sym c.stands_there.ensures ∙ c.if-stands_there.false in (
       omega arith,
-      supply_past m s.loop-i.i _ _ s.requires.0.max n.loop-i-test.true s.loop-i.invariant.1 c.past_supply-at.ensures,
-      not_passed _ _ _ _ s.loop-i.invariant.2 none c.past_supply-at.ensures,
+      supply_past m c.loop-i.i _ _ c.requires.0.max c.loop-i-test.true c.loop-i.invariant.1 c.past_supply-at.ensures,
+      not_passed _ _ _ _ c.loop-i.invariant.2 none c.past_supply-at.ensures,
     )
 
 pub returns : goal.returns
 returns c =
-    let s = c.before in
-    let p = s.args.p in
+    let p = c.args.p in
     let m = p.max.0 in
-    let e : s.loop-i.i ≡ 3 = omega arith in
-    let full = s.loop-i.invariant.1 ∙ ap (supplies_to m) e ∙ all_supplies m s.requires.0.max in
-    none_there p (length (slots m)) s.args.asked (subst (λ (n : ℕ). n ≤ s.args.asked) full s.loop-i.invariant.2)
+    let e : c.loop-i.i ≡ 3 = omega arith in
+    let full = c.loop-i.invariant.1 ∙ ap (supplies_to m) e ∙ all_supplies m c.requires.0.max in
+    none_there p (length (slots m)) c.args.asked (subst (λ (n : ℕ). n ≤ c.args.asked) full c.loop-i.invariant.2)
