@@ -5,16 +5,14 @@ use Prim.Native.Nat.{ℕ}
 use native.Mathlib.Omega.{arith}
 use mathlib.Core.List.{List}
 use Rattle.verdicts.specs.declared.Verdict.{Verdict}
-use Rattle.verdicts.specs.Refusals.{NoneApply}
-use Rattle.verdicts.proofs.First.{none_applied, passes}
+use Rattle.verdicts.proofs.First.{passes}
 use Rattle.lists.specs.declared.Words.{Words}
 use Rattle.lists.specs.declared.Listing.{Listing}
 use Rattle.lists.specs.Writing.{write_refused}
 use Rattle.rules.specs.Profiles.{profile_refusals}
-use Rattle.rules.proofs.ProfileCases.{profile_numbered, max_high, within_bounds_lem}
+use Rattle.rules.proofs.ProfileCases.{profile_numbered, judged_fine, max_high, within_bounds_lem}
 use Rattle.rules.proofs.Builds.{build_refused, build_6, build_done, built_count_high}
 use Rattle.rules.proofs.building.build.Goals as goal
-use Rattle.rules.proofs.building.build.Goals.{Else-verdict-ne-SUCCESS}
 
 abbrev number : Verdict → ℕ
 number v = v.number
@@ -25,12 +23,6 @@ given v l = record { verdict = v; list = l }
 abbrev listed : List ℕ → ℕ → Words
 listed ws n = record { words = ws; count = n }
 
--- past the profile, none of its refusals applies
-clear : (c : Else-verdict-ne-SUCCESS) → NoneApply (profile_refusals c.args.p)
-clear c =
-    none_applied _ (profile_numbered c.args.p)
-    (sym (ap number c.judge_profile-verdict.ensures) ∙ c.if-verdict-ne-SUCCESS.false)
-
 pub returns-then-verdict-ne-SUCCESS : goal.returns-then-verdict-ne-SUCCESS
 returns-then-verdict-ne-SUCCESS c =
     let e = c.judge_profile-verdict.ensures in
@@ -40,31 +32,30 @@ returns-then-verdict-ne-SUCCESS c =
 
 pub returns-then-wants_too_much : goal.returns-then-wants_too_much
 returns-then-wants_too_much c =
-    c.refuse-then-wants_too_much.ensures ∙ sym (build_6 _ (clear c.before.before.before) (sym c.wants_too_much.ensures
-    ∙ c.if-wants_too_much.true))
+    let clear = judged_fine c.args.p _ c.judge_profile-verdict.ensures c.if-verdict-ne-SUCCESS.false in
+    c.refuse-then-wants_too_much.ensures ∙ sym (build_6 _ clear (sym c.wants_too_much.ensures ∙ c.if-wants_too_much.true))
 
 pub put_rails-rails-requires : goal.put_rails-rails-requires
-put_rails-rails-requires c = (within_bounds_lem _ (clear c.before.before.before), refl)
+put_rails-rails-requires c =
+    (within_bounds_lem _ (judged_fine c.args.p _ c.judge_profile-verdict.ensures c.if-verdict-ne-SUCCESS.false), refl)
 
 pub put_avs-base-requires : goal.put_avs-base-requires
-put_avs-base-requires c = (clear c.before.before.before.before.before, c.put_rails-rails.ensures)
+put_avs-base-requires c = (judged_fine c.args.p _ c.judge_profile-verdict.ensures c.if-verdict-ne-SUCCESS.false, c.put_rails-rails.ensures)
 
 pub put_supplies-count-requires : goal.put_supplies-count-requires
-put_supplies-count-requires c = (within_bounds_lem _ (clear c.before.before.before.before.before.before.before), c.put_avs-base.ensures)
+put_supplies-count-requires c =
+    (within_bounds_lem _ (judged_fine c.args.p _ c.judge_profile-verdict.ensures c.if-verdict-ne-SUCCESS.false), c.put_avs-base.ensures)
 
 pub overflow_cast-result : goal.overflow_cast-result
 overflow_cast-result c =
-    let n = c.before.before.before.before.before.before.before.before in
-    let p = n.args.p in
-    record { fits = omega (arith, c.put_supplies-count.ensures.place, built_count_high p (max_high p (clear n))) }
+    let p = c.args.p in
+    let clear = judged_fine p _ c.judge_profile-verdict.ensures c.if-verdict-ne-SUCCESS.false in
+    record { fits = omega (arith, c.put_supplies-count.ensures.place, built_count_high p (max_high p clear)) }
 
 pub returns : goal.returns
 returns c =
-    let f = c.before.before.before.before.before.before in
-    let w = f.before in
-    let n = w.before in
-    let p = n.args.p in
-    let e = n.judge_profile-verdict.ensures in
-    ap₂ given (e ∙ passes (profile_refusals p) (profile_numbered p) (sym (ap number e) ∙ n.if-verdict-ne-SUCCESS.false))
+    let p = c.args.p in
+    let e = c.judge_profile-verdict.ensures in
+    ap₂ given (e ∙ passes (profile_refusals p) (profile_numbered p) (sym (ap number e) ∙ c.if-verdict-ne-SUCCESS.false))
     (ap₂ listed c.put_supplies-count.ensures.words c.put_supplies-count.ensures.place)
-    ∙ sym (build_done p (clear n) (sym w.wants_too_much.ensures ∙ f.if-wants_too_much.false))
+    ∙ sym (build_done p (judged_fine p _ e c.if-verdict-ne-SUCCESS.false) (sym c.wants_too_much.ensures ∙ c.if-wants_too_much.false))

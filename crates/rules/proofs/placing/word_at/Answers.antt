@@ -3,29 +3,19 @@
 use mathlib.Core.Path.{◌≡◌, sym, ap, ◌∙◌}
 use Prim.Native.Nat.{ℕ}
 use Rattle.verdicts.specs.declared.Verdict.{Verdict}
-use Rattle.verdicts.specs.Refusals.{NoneApply}
-use Rattle.verdicts.proofs.First.{none_applied}
 use Rattle.lists.specs.declared.Listing.{Listing}
 use Rattle.rules.specs.declared.Profile.{Profile}
 use Rattle.rules.specs.declared.Placed.{Placed}
-use Rattle.rules.specs.Profiles.{profile_refusals}
 use Rattle.rules.specs.Building.{built_of}
 use Rattle.rules.specs.Placing.{placed_in, placed_says, place_says}
-use Rattle.rules.proofs.ProfileCases.{profile_numbered, max_high, within_bounds_lem}
+use Rattle.rules.proofs.ProfileCases.{judged_fine, max_high, within_bounds_lem}
 use Rattle.rules.proofs.Builds.{build_refused, build_6, build_done, built_count_high}
 use Rattle.rules.proofs.Saying.{place_says_lem}
 use Rattle.rules.proofs.Places.{none_placed, placed_there}
 use Rattle.rules.proofs.placing.word_at.Goals as goal
-use Rattle.rules.proofs.placing.word_at.Goals.{Else-verdict-ne-SUCCESS}
 
 abbrev number : Verdict → ℕ
 number v = v.number
-
--- past the profile, none of its refusals applies
-clear : (c : Else-verdict-ne-SUCCESS) → NoneApply (profile_refusals c.args.p)
-clear c =
-    none_applied _ (profile_numbered c.args.p)
-    (sym (ap number c.judge_profile-verdict.ensures) ∙ c.if-verdict-ne-SUCCESS.false)
 
 -- a place of what is built
 abbrev placed : ℕ → Listing → Placed
@@ -43,22 +33,17 @@ returns-then-verdict-ne-SUCCESS c =
 
 pub returns-then-wants_too_much : goal.returns-then-wants_too_much
 returns-then-wants_too_much c =
-    let n = c.before.before in
-    let x = n.args in
-    says _ _ _
-    (sym (ap (placed x.place) (build_6 x.p (clear n) (sym c.wants_too_much.ensures ∙ c.if-wants_too_much.true)) ∙ none_placed x.place))
+    let x = c.args in
+    let clear = judged_fine x.p _ c.judge_profile-verdict.ensures c.if-verdict-ne-SUCCESS.false in
+    says _ _ _ (sym (ap (placed x.place) (build_6 x.p clear (sym c.wants_too_much.ensures ∙ c.if-wants_too_much.true)) ∙ none_placed x.place))
 
 pub standing_at-requires : goal.standing_at-requires
-standing_at-requires c =
-    let n = c.before.before.before in
-    within_bounds_lem n.args.p (clear n)
+standing_at-requires c = within_bounds_lem c.args.p (judged_fine c.args.p _ c.judge_profile-verdict.ensures c.if-verdict-ne-SUCCESS.false)
 
 pub returns : goal.returns
 returns c =
-    let f = c.before.before in
-    let w = f.before in
-    let n = w.before in
-    let x = n.args in
+    let x = c.args in
+    let clear = judged_fine x.p _ c.judge_profile-verdict.ensures c.if-verdict-ne-SUCCESS.false in
     says _ _ _ (c.standing_at.ensures
-    ∙ placed_there x.p x.place (built_count_high x.p (max_high x.p (clear n))) c.if-place-lt1.false
-    ∙ sym (ap (placed x.place) (build_done x.p (clear n) (sym w.wants_too_much.ensures ∙ f.if-wants_too_much.false))))
+    ∙ placed_there x.p x.place (built_count_high x.p (max_high x.p clear)) c.if-place-lt1.false
+    ∙ sym (ap (placed x.place) (build_done x.p clear (sym c.wants_too_much.ensures ∙ c.if-wants_too_much.false))))
