@@ -7,7 +7,7 @@ use Prim.Native.Nat.{◌≤◌}
 use native.Mathlib.Omega.{arith}
 use lib.Dec.{eqb}
 use lib.ListN.{length}
-use Rattle.verdicts.specs.Refusals.{refusal, verdict, success, verdict_of, NoneApply}
+use Rattle.verdicts.specs.Refusals.{refusal, success, verdict_of, NoneApply}
 use Rattle.verdicts.proofs.First.{hit, onward, onto, all_missed, refused_so, none_append, numbered, passes}
 use Rattle.lists.specs.declared.Listing.{Listing}
 use Rattle.lists.specs.Writing.{no_words, write_refused}

@@ -1,14 +1,15 @@
 -- The refusals of a profile, case by case, and what a profile that passes says.
 -- Assumes nothing.
-use mathlib.Core.Path.{◌≡◌, refl, ◌∙◌}
+use mathlib.Core.Path.{◌≡◌, refl, sym, ap, ◌∙◌}
 use mathlib.Core.Bool.{Bool, true, false, not, ◌&&◌, ◌||◌, and-eq-true_iff}
 use mathlib.Core.List.{List, [], ◌∷◌}
 use Prim.Native.Nat.{ℕ, ◌≤◌}
 use native.Mathlib.Omega.{arith}
 use lib.Dec.{ltb, eqb}
 use borrow.Author.Tests.{ltb-false, eqb-true}
+use Rattle.verdicts.specs.declared.Verdict.{Verdict}
 use Rattle.verdicts.specs.Refusals.{Refusal, refusal, first_of, verdict, success, verdict_of, NoneApply}
-use Rattle.verdicts.proofs.First.{hit, miss, all_missed, numbered}
+use Rattle.verdicts.proofs.First.{hit, miss, all_missed, numbered, none_applied}
 use Rattle.rules.specs.declared.Profile.{Profile}
 use Rattle.rules.specs.Profiles.{bad_cable, profile_rows, profile_refusals, Within}
 use Rattle.steps.specs.Ranges.{within}
@@ -47,6 +48,10 @@ module _ (m p cable rounding pps flags : ℕ) where
 
 pub profile_numbered : (p : Profile) → numbered (profile_refusals p) ≡ true
 profile_numbered p = refl
+
+-- where the verdict on a profile is 0, none of its refusals applies
+pub judged_fine : (p : Profile) (v : Verdict) → v ≡ verdict_of (profile_refusals p) → v.number ≡ 0 → NoneApply (profile_refusals p)
+judged_fine p v e z = none_applied (profile_refusals p) (profile_numbered p) (sym (ap (λ (w : Verdict). w.number) e) ∙ z)
 
 -- a profile that passes
 module _ (p : Profile) (x : NoneApply (profile_refusals p)) where

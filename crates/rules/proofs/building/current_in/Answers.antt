@@ -1,0 +1,7 @@
+-- `rules::building::current_in` meets its contract: the law `taken-low` at bits 9..0.
+-- Assumes nothing.
+use Rattle.objects.proofs.Taking.{taken_low}
+use Rattle.rules.proofs.building.current_in.Goals as goal
+
+pub returns : goal.returns
+returns c = taken_low c.args.word 9
