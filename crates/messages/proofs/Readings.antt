@@ -8,7 +8,7 @@ use lib.Dec.{ltb, eqb}
 use lib.ListN.{length}
 use borrow.Author.Tests.{lt-ltb, le-ltb, eq-eqb, ne_eqb}
 use Rattle.verdicts.specs.declared.Verdict.{Verdict}
-use Rattle.verdicts.specs.Refusals.{first_of, verdict, verdict_of, NoneApply}
+use Rattle.verdicts.specs.Refusals.{first_of, verdict_of, NoneApply}
 use Rattle.verdicts.proofs.First.{hit, miss, numbered, numbered_append, none_applied, all_missed, refused_so, onward, stops, said_first}
 use Rattle.messages.specs.declared.MessageReading.{MessageReading}
 use Rattle.messages.specs.Headers.{length_of}

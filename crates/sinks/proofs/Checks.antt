@@ -1,17 +1,15 @@
 -- The cases of the sink check, in order.
 -- Assumes nothing.
-use mathlib.Core.Path.{◌≡◌, refl, sym, ◌∙◌}
-use mathlib.Core.Bool.{true, false, ◌||◌}
-use mathlib.Core.List.{List, ◌++◌}
+use mathlib.Core.Path.{◌≡◌, refl, ◌∙◌}
+use mathlib.Core.Bool.{true, false}
+use mathlib.Core.List.{List}
 use Prim.Native.Nat.{ℕ, ◌≤◌, ◌<◌}
-use lib.Dec.{ltb}
 use borrow.Author.Tests.{lt-ltb, le-ltb}
 use Rattle.verdicts.specs.Refusals.{Refusal, each_place, verdict, success, verdict_of}
-use Rattle.verdicts.proofs.First.{hit, miss, onward, all_missed, refused_so, numbered, numbered_append, numbered_places}
+use Rattle.verdicts.proofs.First.{hit, miss, onward, all_missed, numbered, numbered_append, numbered_places}
 use Rattle.objects.specs.declared.Side.TheVariants.{Sink}
 use Rattle.lists.specs.declared.Words.{Words}
-use Rattle.lists.specs.Shape.{shape_for}
-use Rattle.lists.proofs.Shapes.{shape_numbered, shape_verdict, none_of, as_shape_refused}
+use Rattle.lists.proofs.Shapes.{shape_numbered, none_of, as_shape_refused}
 use Rattle.sinks.specs.SinkLists.{sink_shape_refusals, sink_shape_of}
 use Rattle.sinks.specs.Rating.{bad_rating, ceiling_rows, sink_check_refusals, sink_checked_of}
 

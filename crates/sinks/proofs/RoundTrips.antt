@@ -2,12 +2,11 @@
 -- written." (STATEMENT, "Shape of a sink list"), and one word and one sink object ("Sink objects")
 -- Assumes nothing.
 use mathlib.Core.Path.{◌≡◌, refl, sym, ap, ◌∙◌, subst}
-use mathlib.Core.Bool.{Bool, true, false, ◌&&◌, and-eq-true_iff}
+use mathlib.Core.Bool.{Bool, false}
 use mathlib.Core.List.{List}
 use Prim.Native.Nat.{ℕ, ◌^◌, ◌<◌}
 use lib.Dec.{eqb}
 use lib.ListN.{get_or}
-use borrow.Author.Tests.{eqb-true, not-false}
 use Rattle.verdicts.specs.Refusals.{success, NoneApply}
 use Rattle.objects.specs.declared.Side.TheVariants.{Sink}
 use Rattle.objects.specs.declared.Object.{Object}

@@ -1,6 +1,6 @@
 -- A sink object is an object of the source side without what no sink has: so the laws of one word are those of both sides.
 -- Assumes nothing.
-use mathlib.Core.Path.{◌≡◌, refl, sym, ap, ap₂, ◌∙◌}
+use mathlib.Core.Path.{◌≡◌, refl, sym, ap, ◌∙◌}
 use mathlib.Core.Bool.{Bool, true, false, cond}
 use mathlib.Core.Logic.{⊎_elim}
 use Prim.Native.Nat.{ℕ, zero, suc, ◌+◌, ◌<◌}
@@ -11,7 +11,6 @@ use Rattle.objects.specs.Layout.{all_fit, joined}
 use Rattle.objects.specs.Decode.{kind_bits, not_allowed_for, by_kind, by_augmented, decode_for, allowed_for}
 use Rattle.objects.specs.Encode.{fields_of, if_fit, word_of, encode_of}
 use Rattle.objects.specs.declared.Side.TheVariants.{Sink}
-use Rattle.objects.specs.declared.Object.{Object}
 use Rattle.objects.specs.declared.Object.TheVariants as source
 use Rattle.objects.specs.declared.Decoded.{Decoded}
 use Rattle.objects.specs.declared.Decoded.TheVariants as decoded

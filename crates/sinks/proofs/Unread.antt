@@ -2,16 +2,13 @@
 -- Assumes nothing.
 use mathlib.Core.Path.{◌≡◌, sym, ap, ◌∙◌}
 use mathlib.Core.List.{List, [], ◌∷◌}
-use Prim.Native.Nat.{ℕ, ◌<◌}
-use lib.ListN.{get_or}
-use Rattle.verdicts.specs.Refusals.{Refusal, refusal, each_place, first_of, verdict, success, verdict_of}
+use Prim.Native.Nat.{ℕ}
+use Rattle.verdicts.specs.Refusals.{refusal, each_place, first_of, verdict, success, verdict_of}
 use Rattle.verdicts.proofs.First.{onward, same_places}
 use Rattle.objects.specs.declared.Side.TheVariants.{Sink}
 use Rattle.lists.specs.declared.Words.{Words}
-use Rattle.lists.specs.declared.Listing.{Listing}
-use Rattle.lists.specs.Shape.{refusals_for}
 use Rattle.lists.specs.Unread.{AgreeWords}
-use Rattle.lists.proofs.Unread.{counting, recounted, same_past_shape, same_taken, same_written_at}
+use Rattle.lists.proofs.Unread.{recounted, same_past_shape, same_taken, same_written_at}
 use Rattle.sinks.specs.declared.SinkPlace.{SinkPlace}
 use Rattle.sinks.specs.declared.SinkObjects.{SinkObjects}
 use Rattle.sinks.specs.declared.SinkReading.{SinkReading}
