@@ -1,8 +1,3 @@
-pub mod Data
-pub mod Cells
-pub mod Values
-pub mod Elements
-pub mod Rows
 pub mod NarrowFigures
 pub mod Makings
 pub mod Takings
