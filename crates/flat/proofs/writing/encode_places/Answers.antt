@@ -1,0 +1,43 @@
+-- `flat::writing::encode_places` meets its contract: the invariant is that no object passed is too wide, and the words so far are made.
+-- Assumes nothing.
+use borrow.Author.Rules.{rules}
+use mathlib.Core.Path.{◌≡◌, sym, ◌∙◌}
+use mathlib.Core.Bool.{false}
+use Prim.Native.Nat.{ℕ, ◌-◌, ◌≤◌}
+use native.Mathlib.Omega.{arith}
+use Rattle.objects.proofs.Saying.{encoded_one}
+use Rattle.lists.specs.Shape.{bad_count}
+use Rattle.lists.proofs.Shapes.{count_high}
+use Rattle.lists.proofs.Writings.{not_made, MadeTo, none_made, one_made, one_wide, all_made}
+use Rattle.flat.specs.Writing.{encoded_flat_at}
+use Rattle.flat.proofs.writing.encode_places.Goals as goal
+
+pub returns-then-bad_count : goal.returns-then-bad_count
+returns-then-bad_count c = c.refuse.ensures ∙ not_made _ _ (sym c.bad_count.ensures ∙ c.if-bad_count.true)
+
+pub loop-i-init : goal.loop-i-init
+loop-i-init c = let b = sym c.bad_count.ensures ∙ c.if-bad_count.false in (search rules, count_high _ b, b, none_made _)
+
+pub returns-in_default : goal.returns-in_default
+returns-in_default c =
+    let l = c.args.list in
+    let side = c.args.side in
+    let at = c.loop-i in
+    c.refuse-in_default.ensures
+    ∙ one_wide (encoded_flat_at side l.places) at.i l.count at.words at.invariant.2 c.loop-i-test.true at.invariant.3
+    (sym (encoded_one _ (encoded_flat_at side l.places at.i) c.encode_flat-e.ensures) ∙ c.in_default.is)
+
+pub loop-i-preserved : goal.loop-i-preserved
+loop-i-preserved c =
+    let l = c.args.list in
+    let side = c.args.side in
+    let at = c.loop-i in (
+      omega arith,
+      at.invariant.1,
+      at.invariant.2,
+      one_made (encoded_flat_at side l.places) at.i _ at.words (omega arith) at.invariant.3
+          (sym (encoded_one _ (encoded_flat_at side l.places at.i) c.encode_flat-e.ensures) ∙ c.in-Word.is),
+    )
+
+pub returns : goal.returns
+returns c = all_made _ _ _ _ c.loop-i.invariant.2 (omega arith) c.loop-i.invariant.3
