@@ -18,19 +18,17 @@ returns-then-fault-ne-SUCCESS c =
 
 pub change_row-requires : goal.change_row-requires
 change_row-requires c =
-    let p = c.before in
-    let x = p.args in
+    let x = c.args in
     port_low x.capacity.0 x.standing x.port
     (use_port x.capacity.0 x.standing x.port x.row
     (cleared (use_end_refusals x.capacity.0 x.standing x.row x.port) (use_telling x.capacity.0 x.standing x.port
-    x.row) _ p.use_fault-fault.ensures p.if-fault-ne-SUCCESS.false))
+    x.row) _ c.use_fault-fault.ensures c.if-fault-ne-SUCCESS.false))
 
 pub returns : goal.returns
 unfolding detach_change
 returns c =
-    let p = c.before.before in
-    let x = p.args in
+    let x = c.args in
     c.change_row.ensures
     ∙ ap (changing x.port) c.emptied-new.ensures
     ∙ sym (answered (use_end_refusals x.capacity.0 x.standing x.row x.port) (use_telling x.capacity.0 x.standing x.port
-    x.row) _ p.use_fault-fault.ensures p.if-fault-ne-SUCCESS.false (no_change x.standing) _)
+    x.row) _ c.use_fault-fault.ensures c.if-fault-ne-SUCCESS.false (no_change x.standing) _)
