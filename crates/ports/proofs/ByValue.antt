@@ -2,13 +2,13 @@
 -- number is its own.
 -- Assumes nothing.
 use mathlib.Core.Path.{◌≡◌, refl, sym, ap, ◌∙◌}
-use mathlib.Core.Bool.{false}
-use mathlib.Core.List.{List, ◌++◌}
+use mathlib.Core.Bool.{Bool, false, not}
+use mathlib.Core.List.{List, [], ◌++◌}
 use Prim.Native.Nat.{ℕ, ◌≤◌}
-use borrow.Author.Tests.{ltb-false}
+use borrow.Author.Tests.{eq-eqb, ne_eqb, ltb-false}
 use Rattle.verdicts.specs.declared.Verdict.{Verdict}
 use Rattle.verdicts.specs.Refusals.{Refusal, first_of, verdict, success, verdict_of, NoneApply}
-use Rattle.verdicts.proofs.First.{none_left, none_right, onward, all_missed, is_number, numbered_append, Without, without_append, without_numbered, Telling, telling_given, none_told}
+use Rattle.verdicts.proofs.First.{hit, miss, none_left, none_right, onward, all_missed, is_number, numbered_append, Without, without_append, without_numbered, Telling, telling_given, none_told}
 use Rattle.steps.proofs.RangeLaws.{at_least}
 use Rattle.requests.proofs.Answers.{answer_numbered}
 use Rattle.ports.specs.declared.Row.{Row}
@@ -17,6 +17,7 @@ use Rattle.ports.specs.RuleLists.{rule_list}
 use Rattle.ports.specs.Refusing.{sum_fault, no_such_port, cannot_attach, not_attached, own_refusals, no_power_now}
 use Rattle.ports.specs.Standing.{so_far, end_refusals, port_end_refusals}
 use Rattle.ports.specs.Deciding.{left_beside, attach_end_refusals, use_end_refusals, request_end_refusals}
+use Rattle.ports.proofs.Judged.{stops_at}
 
 -- ---- a table that a function has judged, and lets pass
 
@@ -102,3 +103,21 @@ module _ (capacity : ℕ) (s : Standing) where
 
       pub use_port : NoneApply (use_end_refusals capacity s y port) → NoneApply (port_end_refusals capacity s port)
       use_port x = none_left (port_end_refusals capacity s port) (not_attached y port) x
+
+-- ---- what a call that needs an attached port says, behind what its port says
+
+module _ (capacity : ℕ) (s : Standing) (y : Row) (port : ℕ) (v : Verdict) (e : v ≡ verdict_of (port_end_refusals capacity s port)) where
+  pub use_stops : (v.number ≡ 0 → ⊥) → verdict_of (use_end_refusals capacity s y port) ≡ v
+  use_stops f = stops_at (port_end_refusals capacity s port) v e verdict success (not_attached y port) f
+
+  pub use_empty : v.number ≡ 0 → y.cable.0 ≡ 0 → verdict_of (use_end_refusals capacity s y port) ≡ verdict 35 port
+  use_empty z c =
+      left_to (port_end_refusals capacity s port) (port_telling capacity s port) v e z verdict success (not_attached y port)
+      ∙ hit verdict success 35 port [] (ap (λ (b : Bool). not (not b)) (eq-eqb y.cable.0 0 c))
+
+  pub use_passes : v.number ≡ 0 → (y.cable.0 ≡ 0 → ⊥) → verdict_of (use_end_refusals capacity s y port) ≡ v
+  use_passes z c =
+      left_to (port_end_refusals capacity s port) (port_telling capacity s port) v e z verdict success (not_attached y port)
+      ∙ miss verdict success 35 port [] (ap (λ (b : Bool). not (not b)) (ne_eqb y.cable.0 0 c))
+      ∙ all_missed verdict success [] tt
+      ∙ sym (succeeded (port_end_refusals capacity s port) (port_telling capacity s port) v e z)

@@ -69,20 +69,20 @@ module _ (w present : ℕ) where
       ap (λ (r : Request). up_of (mv50 v * operating_of r) 500000) (sym e ∙ ap (λ (x : Object). request_of x w) g) ∙ ap power (sym g)
 
   -- a request that is neither has no voltage
-  pub of_others : (o : Object) → OneOf (0 ∷ 1 ∷ 2 ∷ 4 ∷ []) (tag_of request.the_type (request_of o w))
-      → OneOf (0 ∷ 1 ∷ 2 ∷ 3 ∷ []) (tag_of request.the_type (request_of o w))
-      → OneOf (1 ∷ 2 ∷ 3 ∷ 4 ∷ []) (tag_of request.the_type (request_of o w)) → 0 ≡ power o
+  pub of_others : (o : Object) → ((v : Mv20) (a : Ma50) → request_of o w ≡ asked.Pps v a → ⊥)
+      → ((v : Mv25) (a : Ma50) → request_of o w ≡ asked.Avs v a → ⊥) → ((a m : Ma10) → request_of o w ≡ asked.Fixed a m → ⊥)
+      → 0 ≡ power o
   unfolding up_of
-  of_others (Fixed f p v a) h k l = absurd (apart 0 (1 ∷ 2 ∷ 3 ∷ 4 ∷ []) refl l)
+  of_others (Fixed f p v a) h k l = absurd (l _ _ refl)
   of_others (Battery x m p) h k l = ap (λ (n : ℕ). up_of n 500000) (sym (zero-mul (operating_of (request_of (Battery x m p) w))))
   of_others (Variable x m a) h k l = ap (λ (n : ℕ). up_of n 500000) (sym (zero-mul (operating_of (request_of (Variable x m a) w))))
-  of_others (Pps l x m a) h k n = absurd (apart 3 (0 ∷ 1 ∷ 2 ∷ 4 ∷ []) refl h)
-  of_others (Avs p l h) g k n = absurd (apart 4 (0 ∷ 1 ∷ 2 ∷ 3 ∷ []) refl k)
+  of_others (Pps l x m a) h k n = absurd (h _ _ refl)
+  of_others (Avs p l h) g k n = absurd (k _ _ refl)
 
   -- only a fixed object has such a request
-  pub fixed_alone : (o : Object) (a m : Ma10) → request_of o w ≡ asked.Fixed a m → OneOf (1 ∷ 2 ∷ 3 ∷ 4 ∷ []) (tag_of object.the_type o)
-      → {n : ℕ} → 0 ≡ n
-  fixed_alone (Fixed f p v a) b c e h = absurd (apart 0 (1 ∷ 2 ∷ 3 ∷ 4 ∷ []) refl h)
+  pub fixed_alone : (o : Object) (a m : Ma10) → request_of o w ≡ asked.Fixed a m
+      → ((f p : ℕ) (v : Mv50) (a : Ma10) → o ≡ Fixed f p v a → ⊥) → {n : ℕ} → 0 ≡ n
+  fixed_alone (Fixed f p v a) b c e h = absurd (h f p v a refl)
   fixed_alone (Battery x m p) b c e h = let z : asked.Battery _ _ ≡ asked.Fixed b c = e in cc
   fixed_alone (Variable x m a) b c e h = let z : asked.Variable _ _ ≡ asked.Fixed b c = e in cc
   fixed_alone (Pps l x m a) b c e h = let z : asked.Pps _ _ ≡ asked.Fixed b c = e in cc

@@ -11,6 +11,7 @@ use crate::{Row, Standing};
 use steps::HalfWatts;
 use verdicts::Verdict;
 
+#[tactic(auto, unfolding(verdicts::specs::Refusals::first_of))]
 fn table_fault(count: usize, capacity: HalfWatts) -> Verdict
     ensures { result ≡ verdict_of (table_refusals capacity.0 count) }
 {
@@ -107,6 +108,7 @@ pub(crate) fn end_fault(standing: Standing, capacity: HalfWatts) -> Verdict
 
 // Where the row of a port, which counts from 1, stands among the rows, from 0. After a refusal, or where there is no such port, it is past
 // the end. Nothing is refused here.
+#[tactic(auto, unfolding(crate::specs::Standing::place_of))]
 pub fn place_of(standing: Standing, port: u8) -> usize
     ensures { TellsPlace standing port result }
 {

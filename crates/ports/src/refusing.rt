@@ -51,6 +51,7 @@ pub(crate) fn attach_fault(
 }
 
 // .. or 35.
+#[tactic(auto, using(crate::proofs::ByValue::use_stops, crate::proofs::ByValue::use_empty, crate::proofs::ByValue::use_passes))]
 pub(crate) fn use_fault(standing: Standing, row: Row, capacity: HalfWatts, port: u8) -> Verdict
     ensures { result ≡ verdict_of (use_end_refusals capacity.0 standing row port) }
 {

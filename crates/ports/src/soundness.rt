@@ -48,6 +48,7 @@ fn sound_attached(row: Row) -> bool
     row.max.0 <= 200
 }
 
+#[tactic(auto, unfolding(crate::specs::Soundness::sound_row))]
 pub(crate) fn sound_row(row: Row) -> bool
     ensures { result ≡ sound_row row }
 {
