@@ -1,12 +1,9 @@
 -- The power of a request, from the figures as they stand in their steps, and by the kind of what was asked.
 -- Assumes nothing.
 use mathlib.Core.Path.{◌≡◌, refl, sym, ap, ◌∙◌, subst}
-use mathlib.Core.List.{[], ◌∷◌}
 use Prim.Native.Nat.{ℕ, zero, suc, ◌*◌, ◌≤◌, ◌<◌, min}
 use native.Mathlib.Nat.{zero-mul, mul-le-mul, min-le_right}
 use native.Mathlib.Omega.{arith}
-use types.Run.{OneOf}
-use denote.Enum.Declared.{tag_of}
 use Rattle.steps.specs.declared.Mv20.{Mv20}
 use Rattle.steps.specs.declared.Mv25.{Mv25}
 use Rattle.steps.specs.declared.Mv50.{Mv50}
@@ -16,8 +13,6 @@ use Rattle.steps.specs.Units.{mv20, mv25, mv50, ma10, ma50}
 use Rattle.steps.specs.Rounding.{up_of}
 use Rattle.steps.proofs.RoundingLaws.{up_scaled, up_least}
 use Rattle.steps.proofs.StepTests.{product}
-use Rattle.objects.specs.contracts.Object as object
-use Rattle.objects.proofs.Others.{apart}
 use Rattle.objects.proofs.Taking.{bits_lt}
 use Rattle.objects.specs.Bits.{bits}
 use Rattle.objects.specs.Decode.{by_augmented, by_kind, decode_of}
@@ -25,7 +20,6 @@ use Rattle.objects.specs.declared.Decoded.{Decoded}
 use Rattle.objects.specs.declared.Decoded.TheVariants.{Known, NotAllowed}
 use Rattle.objects.specs.declared.Object.{Object}
 use Rattle.objects.specs.declared.Object.TheVariants.{Fixed, Battery, Variable, Pps, Avs}
-use Rattle.requests.specs.contracts.Request as request
 use Rattle.requests.specs.declared.Request.{Request}
 use Rattle.requests.specs.declared.Request.TheVariants as asked
 use Rattle.requests.specs.Taking.{request_of}

@@ -9,7 +9,7 @@ use Rattle.ports.specs.declared.Row.{Row}
 use Rattle.ports.specs.declared.Standing.{Standing}
 use Rattle.ports.specs.declared.Change.{Change}
 use Rattle.ports.specs.declared.RemainingPower.{RemainingPower}
-use Rattle.ports.specs.Rows.{emptied as emptiedRow}
+use Rattle.ports.specs.Rows.{emptied as emptied_row}
 use Rattle.ports.specs.Standing.{begun, taken_row, goes_on, all_or_none, place_of}
 use Rattle.ports.specs.Deciding.{attach_change, advertise_change, offer_of, request_change, detach_change, power_left}
 
@@ -51,4 +51,4 @@ abbrev pub Remains : Standing → HalfWatts → RemainingPower → Type 0
 Remains s capacity r = r ≡ power_left capacity.0 s
 
 abbrev pub Empties : Row → Row → Type 0
-Empties y r = r ≡ emptiedRow y
+Empties y r = r ≡ emptied_row y

@@ -11,7 +11,6 @@ use Rattle.ports.specs.Standing.{port_end_refusals}
 use Rattle.ports.specs.Deciding.{present_beside, no_change, changing, use_end_refusals, advertise_change}
 use Rattle.ports.proofs.Judged.{decides}
 use Rattle.ports.proofs.ByValue.{use_telling, use_port, port_low, held_fits, cleared, answered}
-use borrow.Author.Rules.{rules}
 use Rattle.ports.proofs.deciding.advertise.Goals as goal
 
 -- past the port

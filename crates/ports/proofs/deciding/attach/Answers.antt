@@ -11,7 +11,6 @@ use Rattle.ports.specs.Standing.{port_end_refusals}
 use Rattle.ports.specs.Deciding.{present_beside, no_change, changing, attach_end_refusals, attach_change}
 use Rattle.ports.proofs.Judged.{decides}
 use Rattle.ports.proofs.ByValue.{attach_telling, attach_port, port_low, held_fits, cleared, answered}
-use borrow.Author.Rules.{rules}
 use Rattle.ports.proofs.deciding.attach.Goals as goal
 
 -- past the port

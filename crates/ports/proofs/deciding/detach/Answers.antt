@@ -5,7 +5,6 @@ use Rattle.ports.specs.Rows.{emptied}
 use Rattle.ports.specs.Deciding.{no_change, changing, use_end_refusals, detach_change}
 use Rattle.ports.proofs.Judged.{decides}
 use Rattle.ports.proofs.ByValue.{use_telling, use_port, port_low, cleared, answered}
-use borrow.Author.Rules.{rules}
 use Rattle.ports.proofs.deciding.detach.Goals as goal
 
 pub returns-then-fault-ne-SUCCESS : goal.returns-then-fault-ne-SUCCESS

@@ -8,7 +8,6 @@ use Rattle.verdicts.specs.declared.Verdict.{Verdict}
 use Rattle.verdicts.proofs.First.{hit, miss, all_missed}
 use Rattle.ports.specs.Rows.{holding}
 use Rattle.ports.specs.Deciding.{no_change, changing}
-use borrow.Author.Rules.{rules}
 use Rattle.ports.proofs.deciding.hold.Goals as goal
 
 pub returns-then-left-held : goal.returns-then-left-held

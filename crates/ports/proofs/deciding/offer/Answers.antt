@@ -9,7 +9,6 @@ use Rattle.lists.specs.Writing.{write_refused}
 use Rattle.rules.specs.Building.{built_of}
 use Rattle.ports.specs.RuleLists.{rule_profile}
 use Rattle.ports.specs.Deciding.{offer_of}
-use borrow.Author.Rules.{rules}
 use Rattle.ports.proofs.deciding.offer.Goals as goal
 
 pub returns-then-verdict-ne-SUCCESS : goal.returns-then-verdict-ne-SUCCESS

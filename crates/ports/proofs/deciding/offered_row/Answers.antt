@@ -3,7 +3,6 @@
 use mathlib.Core.Path.{ap, ◌∙◌}
 use Prim.Native.Nat.{ℕ, min}
 use Rattle.ports.specs.Rows.{offering}
-use borrow.Author.Rules.{rules}
 use Rattle.ports.proofs.deciding.offered_row.Goals as goal
 
 pub returns : goal.returns

@@ -10,7 +10,6 @@ use Rattle.ports.specs.Lending.{no_power_left}
 use Rattle.ports.specs.Deciding.{power_left}
 use Rattle.ports.proofs.Judged.{decides}
 use Rattle.ports.proofs.ByValue.{end_telling, sum_fits, cleared, succeeded, answered}
-use borrow.Author.Rules.{rules}
 use Rattle.ports.proofs.deciding.remaining.Goals as goal
 
 pub returns-then-verdict-ne-SUCCESS : goal.returns-then-verdict-ne-SUCCESS

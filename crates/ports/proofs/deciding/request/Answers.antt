@@ -17,7 +17,6 @@ use Rattle.ports.specs.Deciding.{use_end_refusals}
 use Rattle.ports.proofs.Powers.{power_fits}
 use Rattle.ports.proofs.ByValue.{use_telling, use_port, port_low, held_fits, cleared}
 use Rattle.ports.proofs.Requesting.{Names, named, none_named, none_answers, known_named, list_judges, held_is, use_refused, own_refused, power_decides}
-use borrow.Author.Rules.{rules}
 use Rattle.ports.proofs.deciding.request.Goals as goal
 
 -- past the port

@@ -5,7 +5,6 @@ use Prim.Native.Nat.{ℕ}
 use Rattle.rules.specs.declared.Profile.{Profile}
 use Rattle.ports.specs.declared.Row.{Row}
 use Rattle.ports.specs.RuleLists.{rule_profile}
-use borrow.Author.Rules.{rules}
 use Rattle.ports.proofs.deciding.rule_profile.Goals as goal
 
 abbrev with_pps : Row → ℕ → Profile

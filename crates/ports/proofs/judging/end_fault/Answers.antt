@@ -4,7 +4,6 @@ use mathlib.Core.Path.{sym, ap, ◌∙◌}
 use mathlib.Core.Bool.{not}
 use mathlib.Core.List.{[]}
 use borrow.Author.Tests.{eq-eqb, ne_eqb, lt-ltb, le-ltb}
-use borrow.Author.Rules.{rules}
 use Rattle.verdicts.specs.Refusals.{verdict, success}
 use Rattle.verdicts.proofs.First.{hit, miss, all_missed}
 use Rattle.ports.proofs.judging.end_fault.Goals as goal

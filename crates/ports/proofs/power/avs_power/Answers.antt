@@ -1,10 +1,7 @@
 -- `ports::power::avs_power` meets its contract.
 -- Assumes nothing.
 use mathlib.Core.Path.{◌∙◌}
-use native.Mathlib.Omega.{arith}
-use Rattle.steps.proofs.StepTests.{product_fits}
 use Rattle.ports.proofs.Powers.{avs_steps}
-use borrow.Author.Rules.{rules}
 use Rattle.ports.proofs.power.avs_power.Goals as goal
 
 pub returns : goal.returns

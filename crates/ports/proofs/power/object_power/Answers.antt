@@ -6,7 +6,6 @@ use Rattle.objects.specs.declared.Object.{Object}
 use Rattle.requests.specs.declared.Asked.{Asked}
 use Rattle.requests.specs.Taking.{request_of, taken_apart}
 use Rattle.ports.proofs.Powers.{of_pps_lem, of_avs_lem, of_fixed_lem, of_others, fixed_alone}
-use borrow.Author.Rules.{rules}
 use Rattle.ports.proofs.power.object_power.Goals as goal
 
 -- what was taken apart is the request to this object

@@ -3,10 +3,7 @@
 use mathlib.Core.Path.{sym, ◌∙◌, subst}
 use Prim.Native.Nat.{ℕ, ◌<◌, ◌≤◌}
 use native.Mathlib.Nat.{min-eq_left, min-eq_right, le_of_lt}
-use native.Mathlib.Omega.{arith}
-use Rattle.steps.proofs.StepTests.{product_fits}
 use Rattle.ports.proofs.Powers.{pps_steps}
-use borrow.Author.Rules.{rules}
 use Rattle.ports.proofs.power.pps_power.Goals as goal
 
 pub returns-then-cut-power : goal.returns-then-cut-power

@@ -15,7 +15,6 @@ use Rattle.ports.specs.Standing.{port_end_refusals}
 use Rattle.ports.specs.Deciding.{attach_end_refusals}
 use Rattle.ports.proofs.Judged.{stops_at}
 use Rattle.ports.proofs.ByValue.{port_telling, succeeded, left_to}
-use borrow.Author.Rules.{rules}
 use Rattle.ports.proofs.refusing.attach_fault.Goals as goal
 
 past_port : (capacity : ℕ) (s : Standing) (y : Row) (port cable : ℕ) (v : Verdict) → v ≡ verdict_of (port_end_refusals capacity s port)

@@ -12,7 +12,6 @@ use Rattle.ports.specs.Refusing.{no_such_port}
 use Rattle.ports.specs.Standing.{end_refusals, port_end_refusals}
 use Rattle.ports.proofs.Judged.{stops_at}
 use Rattle.ports.proofs.ByValue.{end_telling, succeeded, left_to}
-use borrow.Author.Rules.{rules}
 use Rattle.ports.proofs.refusing.port_fault.Goals as goal
 
 past_rows : (capacity : ℕ) (s : Standing) (port : ℕ) (v : Verdict) → v ≡ verdict_of (end_refusals capacity s) → v.number ≡ 0

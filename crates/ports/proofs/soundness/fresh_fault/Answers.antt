@@ -6,7 +6,6 @@ use borrow.Author.Tests.{lt-ltb, le-ltb}
 use Rattle.verdicts.specs.Refusals.{verdict, success}
 use Rattle.verdicts.proofs.First.{hit, miss, all_missed}
 use Rattle.steps.proofs.RangeLaws.{too_low, too_high, inside}
-use borrow.Author.Rules.{rules}
 use Rattle.ports.proofs.soundness.fresh_fault.Goals as goal
 
 pub returns-then-row-lt15 : goal.returns-then-row-lt15

@@ -5,7 +5,6 @@ use mathlib.Core.Bool.{not}
 use mathlib.Core.List.{[]}
 use Rattle.verdicts.specs.Refusals.{verdict, success}
 use Rattle.verdicts.proofs.First.{hit, miss, all_missed}
-use borrow.Author.Rules.{rules}
 use Rattle.ports.proofs.soundness.sound_fault.Goals as goal
 
 pub returns-then-sound_row : goal.returns-then-sound_row
