@@ -1,6 +1,5 @@
 -- `lines::fields::number_up_to` meets its contract. The value never passes the bound. The measure is what is left of the line.
 -- Assumes nothing.
-use borrow.Author.Rules.{rules}
 use Prim.Native.Nat.{◌≤◌, ◌-◌}
 use lib.ListN.{length}
 use Rattle.lines.proofs.fields.number_up_to.Given as goal

@@ -1,14 +1,7 @@
 -- `lines::text::put_places` meets its contract: the invariant is that the places passed are put; those past the count have no text.
 -- Assumes nothing.
-use borrow.Author.Rules.{rules}
-use mathlib.Core.Path.{◌≡◌, ap, ◌∙◌}
-use Prim.Native.Nat.{◌-◌, ◌≤◌, ◌<◌, min}
-use native.Mathlib.Nat.{min-le_left, min-le_right}
-use native.Mathlib.Omega.{arith}
+use Prim.Native.Nat.{◌-◌, ◌≤◌}
 use Rattle.lines.specs.Text.{Appended, places_text}
-use Rattle.lines.proofs.Appending.{nothing, joined, text_is}
-use Rattle.lines.proofs.Lengths.{places_length}
-use Rattle.lines.proofs.Places.{one_more, all_that_count}
 use Rattle.lines.proofs.text.put_places.Given as goal
 
 abbrev pub invariant-loop-i : goal.invariant-loop-i
