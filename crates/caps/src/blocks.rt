@@ -11,7 +11,7 @@ use lines::{LONGEST, put_line};
 use lists::NO_WORDS;
 use std::io::Read;
 
-// A program has no exit status of its own to give, so it says here what it could not do.
+// The program ends with status 0 whatever happened, so it says here what it could not do.
 fn tell(rt: &impl Eprint, text: &str) {
     let _ = rt.eprint(text);
 }

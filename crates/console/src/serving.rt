@@ -86,7 +86,7 @@ fn closed(console: Console) -> Console {
     now
 }
 
-// A program has no exit status of its own to give, so it says here what it could not do.
+// The program ends with status 0 whatever happened, so it says here what it could not do.
 fn tell(rt: &impl Eprint, text: &str) {
     let _ = rt.eprint(text);
 }
