@@ -7,34 +7,34 @@ ghost use Rattle.caps.specs.Blocks.{Leaves, Kept};
 
 use crate::records::{RECORD, profile_at};
 use crate::{Step, Written};
-use libc::{STDERR_FILENO, STDIN_FILENO, STDOUT_FILENO};
 use lines::{LONGEST, put_line};
 use lists::NO_WORDS;
+use std::io::Read;
 
-// A program has no exit status of its own to give, so it says here what it could not do.
-fn tell(text: &[u8]) {
-    io::write_all(STDERR_FILENO, text);
+// The program ends with status 0 whatever happened, so it says here what it could not do.
+fn tell(rt: &impl Eprint, text: &str) {
+    let _ = rt.eprint(text);
 }
 
-fn flush(out: &[u8], next: usize) -> bool
+fn flush(rt: &(impl Print + Eprint), out: &[u8], next: usize) -> bool
     requires { next ≤ length out.now }
 {
-    if io::write_all(STDOUT_FILENO, &out[..next]) {
+    if rt.write_all(&out[..next]).is_ok() {
         return true;
     }
-    tell(b"caps: standard output cannot be written\n");
+    tell(rt, "caps: standard output cannot be written\n");
     false
 }
 
 // A place with room for a line.
-fn place_for_line(out: &[u8], next: usize) -> Written
+fn place_for_line(rt: &(impl Print + Eprint), out: &[u8], next: usize) -> Written
     requires { (71 ≤ length out.now) × (next ≤ length out.now) }
     ensures { Leaves 71 (length out.now) result }
 {
     if LONGEST <= out.len() - next {
         return Written::At(next);
     }
-    if flush(out, next) {
+    if flush(rt, out, next) {
         return Written::At(0);
     }
     Written::Failed
@@ -66,14 +66,20 @@ fn put_end(kept: usize, out: &mut [u8], at: usize) -> usize
 }
 
 // The lines of the first records of the input block.
-fn put_records(input: &[u8], records: usize, out: &mut [u8], at: usize) -> Written
+fn put_records(
+    rt: &(impl Print + Eprint),
+    input: &[u8],
+    records: usize,
+    out: &mut [u8],
+    at: usize,
+) -> Written
     requires { (records * 8 ≤ length input.now) × (71 ≤ length out.old) × (at ≤ length out.old) }
     ensures { Leaves 0 (length out.old) result }
 {
     let mut next = at;
     let mut i = 0;
     while i < records {
-        let place = place_for_line(out, next);
+        let place = place_for_line(rt, out, next);
         let Written::At(free) = place else {
             return Written::Failed;
         };
@@ -84,15 +90,15 @@ fn put_records(input: &[u8], records: usize, out: &mut [u8], at: usize) -> Writt
 }
 
 // The end of the input.
-fn finish(kept: usize, out: &mut [u8], next: usize)
+fn finish(rt: &(impl Print + Eprint), kept: usize, out: &mut [u8], next: usize)
     requires { (71 ≤ length out.old) × (next ≤ length out.old) }
 {
-    let place = place_for_line(out, next);
+    let place = place_for_line(rt, out, next);
     let Written::At(free) = place else {
         return;
     };
     let end = put_end(kept, out, free);
-    flush(out, end);
+    flush(rt, out, end);
 }
 
 // The bytes of an unfinished record, wherever a read cut it, go to the start of the block.
@@ -108,12 +114,18 @@ fn keep(input: &mut [u8], from: usize, count: usize)
 }
 
 // The whole records of a block that holds so many bytes.
-fn list_block(input: &mut [u8], held: usize, out: &mut [u8], next: usize) -> Step
+fn list_block(
+    rt: &(impl Print + Eprint),
+    input: &mut [u8],
+    held: usize,
+    out: &mut [u8],
+    next: usize,
+) -> Step
     requires { (held ≤ length input.old) × (71 ≤ length out.old) × (next ≤ length out.old) }
     ensures { Kept (length out.old) result }
 {
     let records = held / RECORD;
-    let written = put_records(input, records, out, next);
+    let written = put_records(rt, input, records, out, next);
     let Written::At(free) = written else {
         return Step::Ended;
     };
@@ -123,41 +135,53 @@ fn list_block(input: &mut [u8], held: usize, out: &mut [u8], next: usize) -> Ste
 }
 
 // How many bytes the input block holds after a read behind those kept.
-fn held_after(input: &[u8], kept: usize, got: isize) -> usize
+fn held_after(input: &[u8], kept: usize, got: usize) -> usize
     requires { kept ≤ length input.now }
     ensures { result ≤ length input.now }
 {
-    kept + io::count(got, &input[kept..])
+    kept + got.min(input.len() - kept)
 }
 
 // One read. An error ends the program once the lines that are complete are written.
-fn list_some(input: &mut [u8], kept: usize, out: &mut [u8], next: usize) -> Step
+fn list_some(
+    rt: &(impl Print + Eprint),
+    source: &mut impl Read,
+    input: &mut [u8],
+    kept: usize,
+    out: &mut [u8],
+    next: usize,
+) -> Step
     requires { (8 ≤ length input.old) × (71 ≤ length out.old) × (kept < 8) × (next ≤ length out.old) }
     ensures { Kept (length out.old) result }
 {
-    let got = libc::read(STDIN_FILENO, &mut input[kept..]);
-    if got < 0 {
-        flush(out, next);
-        tell(b"caps: standard input cannot be read\n");
+    let read = source.read(&mut input[kept..]);
+    let Ok(got) = read else {
+        flush(rt, out, next);
+        tell(rt, "caps: standard input cannot be read\n");
         return Step::Ended;
-    }
+    };
     if got == 0 {
-        finish(kept, out, next);
+        finish(rt, kept, out, next);
         return Step::Ended;
     }
     let held = held_after(input, kept, got);
-    list_block(input, held, out, next)
+    list_block(rt, input, held, out, next)
 }
 
 // A proved loop has to end, and nothing says that the input does. So it counts down from a number that no run uses up.
-pub(crate) fn list_all(input: &mut [u8], out: &mut [u8])
+pub(crate) fn list_all(
+    rt: &(impl Print + Eprint),
+    source: &mut impl Read,
+    input: &mut [u8],
+    out: &mut [u8],
+)
     requires { (8 ≤ length input.old) × (71 ≤ length out.old) }
 {
     let mut kept = 0;
     let mut next = 0;
     let mut turns = u64::MAX;
     while turns > 0 {
-        let step = list_some(input, kept, out, next);
+        let step = list_some(rt, source, input, kept, out, next);
         let Step::More { kept: k, next: n } = step else {
             return;
         };

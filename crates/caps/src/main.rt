@@ -20,8 +20,9 @@ pub enum Step {
     Ended,
 }
 
-fn main() {
-    let mut input = io::large_buffer();
-    let mut output = io::large_buffer();
-    blocks::list_all(&mut input, &mut output);
+fn main(rt: HostRuntime) {
+    let mut source = rt.reader();
+    let mut input = [0u8; 65536];
+    let mut output = [0u8; 65536];
+    blocks::list_all(&rt, &mut source, &mut input, &mut output);
 }

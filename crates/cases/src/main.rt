@@ -11,9 +11,11 @@ mod printing;
 mod requests_on_l;
 mod table_10_4;
 
-fn main() {
-    lists_by_hand::run();
-    requests_on_l::run();
-    table_10_4::run();
-    notice_examples::run();
+use std::io;
+
+fn main(rt: HostRuntime) -> io::Result<()> {
+    lists_by_hand::run(&rt)?;
+    requests_on_l::run(&rt)?;
+    table_10_4::run(&rt)?;
+    notice_examples::run(&rt)
 }

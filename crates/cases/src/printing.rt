@@ -1,11 +1,11 @@
 // One line a case on standard output.
-use libc::STDOUT_FILENO;
+use std::io;
 
-pub(crate) fn tell(name: &[u8], right: bool) {
-    io::write_all(STDOUT_FILENO, name);
+pub(crate) fn tell(rt: &impl Print, name: &[u8], right: bool) -> io::Result<()> {
+    rt.write_all(name)?;
     if right {
-        io::write_all(STDOUT_FILENO, b": ok\n");
+        rt.write_all(b": ok\n")
     } else {
-        io::write_all(STDOUT_FILENO, b": WRONG\n");
+        rt.write_all(b": WRONG\n")
     }
 }

@@ -5,6 +5,7 @@
 use crate::expecting::is_built;
 use crate::making::{DOWN, NO_PPS, NONE, UP, offers, port};
 use crate::printing::tell;
+use std::io;
 
 fn row(
     maximum: u8,
@@ -24,36 +25,40 @@ fn row(
 }
 
 // Columns: port maximum and cable, port present, rounding; 5 V, 9 V, 15 V, 20 V; AVS 9 to 15 V, AVS 15 to 20 V.
-fn at_65_w() {
+fn at_65_w(rt: &impl Print) -> io::Result<()> {
     let down = row(80, 500, 65, DOWN, 300, 300, 300, 325, 300, 325);
     let up = row(80, 500, 65, UP, 300, 300, 300, 325, 300, 325);
-    tell(b"table 10-4, 80 W / 5 A, 65 W, either rounding", down && up);
+    tell(
+        rt,
+        b"table 10-4, 80 W / 5 A, 65 W, either rounding",
+        down && up,
+    )
 }
 
-fn at_40_w() {
+fn at_40_w(rt: &impl Print) -> io::Result<()> {
     let right = row(80, 500, 40, UP, 300, 300, 267, 200, 267, 200);
-    tell(b"table 10-4, 80 W / 5 A, 40 W, up", right);
+    tell(rt, b"table 10-4, 80 W / 5 A, 40 W, up", right)?;
     let right = row(80, 300, 40, UP, 300, 300, 267, 200, 267, 200);
-    tell(b"table 10-4, 80 W / 3 A, 40 W, up", right);
+    tell(rt, b"table 10-4, 80 W / 3 A, 40 W, up", right)?;
     let right = row(40, 500, 40, UP, 300, 300, 267, NONE, 267, NONE);
-    tell(b"table 10-4, 40 W / 5 A, 40 W, up", right);
+    tell(rt, b"table 10-4, 40 W / 5 A, 40 W, up", right)?;
     let right = row(40, 300, 40, UP, 300, 300, 267, NONE, 267, NONE);
-    tell(b"table 10-4, 40 W / 3 A, 40 W, up", right);
+    tell(rt, b"table 10-4, 40 W / 3 A, 40 W, up", right)
 }
 
-fn at_20_w() {
+fn at_20_w(rt: &impl Print) -> io::Result<()> {
     let right = row(80, 500, 20, DOWN, 300, 222, 133, 100, 133, 100);
-    tell(b"table 10-4, 80 W / 5 A, 20 W, down", right);
+    tell(rt, b"table 10-4, 80 W / 5 A, 20 W, down", right)?;
     let right = row(80, 300, 20, DOWN, 300, 222, 133, 100, 133, 100);
-    tell(b"table 10-4, 80 W / 3 A, 20 W, down", right);
+    tell(rt, b"table 10-4, 80 W / 3 A, 20 W, down", right)?;
     let right = row(40, 500, 20, DOWN, 300, 222, 133, NONE, 133, NONE);
-    tell(b"table 10-4, 40 W / 5 A, 20 W, down", right);
+    tell(rt, b"table 10-4, 40 W / 5 A, 20 W, down", right)?;
     let right = row(40, 300, 20, DOWN, 300, 222, 133, NONE, 133, NONE);
-    tell(b"table 10-4, 40 W / 3 A, 20 W, down", right);
+    tell(rt, b"table 10-4, 40 W / 3 A, 20 W, down", right)
 }
 
-pub(crate) fn run() {
-    at_65_w();
-    at_40_w();
-    at_20_w();
+pub(crate) fn run(rt: &impl Print) -> io::Result<()> {
+    at_65_w(rt)?;
+    at_40_w(rt)?;
+    at_20_w(rt)
 }

@@ -25,91 +25,97 @@ fn begins(line: &[u8], name: &[u8]) -> bool {
     true
 }
 
-fn answer_sink_line(line: &[u8], out: &mut [u8; 4096], end: usize) -> usize {
+fn answer_sink_line(rt: &impl Print, line: &[u8], out: &mut [u8; 4096], end: usize) -> usize {
     if begins(line, b"sinkshape") {
-        return sink_shape_line(line, 9, out, end);
+        return sink_shape_line(rt, line, 9, out, end);
     }
     if begins(line, b"sinkread") {
-        return sink_read_line(line, 8, out, end);
+        return sink_read_line(rt, line, 8, out, end);
     }
     if begins(line, b"sinkwrite") {
-        return sink_write_line(line, 9, out, end);
+        return sink_write_line(rt, line, 9, out, end);
     }
     if begins(line, b"sinkcheck") {
-        return sink_check_line(line, 9, out, end);
+        return sink_check_line(rt, line, 9, out, end);
     }
-    put_unreadable(out, end)
+    put_unreadable(rt, out, end)
 }
 
-fn answer_summary_line(line: &[u8], out: &mut [u8; 4096], end: usize) -> usize {
+fn answer_summary_line(rt: &impl Print, line: &[u8], out: &mut [u8; 4096], end: usize) -> usize {
     if begins(line, b"summary") {
-        return summary_line(line, 7, out, end);
+        return summary_line(rt, line, 7, out, end);
     }
     if begins(line, b"quick") {
-        return quick_line(line, 5, out, end);
+        return quick_line(rt, line, 5, out, end);
     }
-    answer_sink_line(line, out, end)
+    answer_sink_line(rt, line, out, end)
 }
 
-fn answer_list_line(line: &[u8], out: &mut [u8; 4096], end: usize) -> usize {
+fn answer_list_line(rt: &impl Print, line: &[u8], out: &mut [u8; 4096], end: usize) -> usize {
     if begins(line, b"default") {
-        return default_line(line, 7, out, end);
+        return default_line(rt, line, 7, out, end);
     }
     if begins(line, b"build") {
-        return build_line(line, 5, out, end);
+        return build_line(rt, line, 5, out, end);
     }
     if begins(line, b"shape") {
-        return shape_line(line, 5, out, end);
+        return shape_line(rt, line, 5, out, end);
     }
     if begins(line, b"check") {
-        return check_line(line, 5, out, end);
+        return check_line(rt, line, 5, out, end);
     }
     if begins(line, b"readmsg") {
-        return read_message_line(line, 7, out, end);
+        return read_message_line(rt, line, 7, out, end);
     }
     if begins(line, b"takemsg") {
-        return take_message_line(line, 7, out, end);
+        return take_message_line(rt, line, 7, out, end);
     }
     if begins(line, b"writemsg") {
-        return write_message_line(line, 8, out, end);
+        return write_message_line(rt, line, 8, out, end);
     }
     if begins(line, b"read") {
-        return read_line(line, 4, out, end);
+        return read_line(rt, line, 4, out, end);
     }
     if begins(line, b"write") {
-        return write_line(line, 5, out, end);
+        return write_line(rt, line, 5, out, end);
     }
     if begins(line, b"answer") {
-        return answer_call_line(line, 6, out, end);
+        return answer_call_line(rt, line, 6, out, end);
     }
-    answer_summary_line(line, out, end)
+    answer_summary_line(rt, line, out, end)
 }
 
-pub(crate) fn answer_line(line: &[u8], table: Table, out: &mut [u8; 4096], end: usize) -> Answered {
+pub(crate) fn answer_line(
+    rt: &impl Print,
+    line: &[u8],
+    table: Table,
+    out: &mut [u8; 4096],
+    end: usize,
+) -> Answered {
     if begins(line, b"setup") {
-        return set_up_line(line, 5, out, end, table);
+        return set_up_line(rt, line, 5, out, end, table);
     }
     if begins(line, b"attach") {
-        return attach_line(line, 6, out, end, table);
+        return attach_line(rt, line, 6, out, end, table);
     }
     if begins(line, b"advertise") {
-        return advertise_line(line, 9, out, end, table);
+        return advertise_line(rt, line, 9, out, end, table);
     }
     if begins(line, b"request") {
-        return request_line(line, 7, out, end, table);
+        return request_line(rt, line, 7, out, end, table);
     }
     if begins(line, b"detach") {
-        return detach_line(line, 6, out, end, table);
+        return detach_line(rt, line, 6, out, end, table);
     }
     if begins(line, b"remaining") {
-        return remaining_line(line, 9, out, end, table);
+        return remaining_line(rt, line, 9, out, end, table);
     }
     if begins(line, b"rows") {
-        return rows_line(line, 4, out, end, table);
+        return rows_line(rt, line, 4, out, end, table);
     }
     if begins(line, b"table") {
-        return table_line(line, 5, out, end, table);
+        return table_line(rt, line, 5, out, end, table);
     }
-    let told = answer_list_line(line, out, end);
+    let told = answer_list_line(rt, line, out, end);
     Answered { table, end: told }
 }

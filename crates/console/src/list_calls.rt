@@ -34,57 +34,81 @@ fn take_profile(line: &[u8], at: usize) -> ProfileFields {
     }
 }
 
-fn put_profile(out: &mut [u8; 4096], end: usize, profile: Profile) -> usize {
-    let max = put_field(out, end, profile.max.0);
-    let present = put_field(out, max, profile.present.0);
-    let cable = put_field(out, present, profile.cable.0);
-    let rounding = put_field(out, cable, profile.rounding as u16);
-    let pps = put_field(out, rounding, profile.pps as u16);
-    put_field(out, pps, profile.flags as u16)
+fn put_profile(rt: &impl Print, out: &mut [u8; 4096], end: usize, profile: Profile) -> usize {
+    let max = put_field(rt, out, end, profile.max.0);
+    let present = put_field(rt, out, max, profile.present.0);
+    let cable = put_field(rt, out, present, profile.cable.0);
+    let rounding = put_field(rt, out, cable, profile.rounding as u16);
+    let pps = put_field(rt, out, rounding, profile.pps as u16);
+    put_field(rt, out, pps, profile.flags as u16)
 }
 
 // Each line function is handed where the word that names the call ended.
-pub(crate) fn default_line(line: &[u8], at: usize, out: &mut [u8; 4096], end: usize) -> usize {
+pub(crate) fn default_line(
+    rt: &impl Print,
+    line: &[u8],
+    at: usize,
+    out: &mut [u8; 4096],
+    end: usize,
+) -> usize {
     let max = take_number(line, at);
     if max.next != line.len() {
-        return put_unreadable(out, end);
+        return put_unreadable(rt, out, end);
     }
     let answer = rules::default_profile(HalfWatts(max.value));
     let verdict = answer.verdict;
     let profile = answer.profile;
-    let told = put_verdict(out, end, verdict);
-    put_profile(out, told, profile)
+    let told = put_verdict(rt, out, end, verdict);
+    put_profile(rt, out, told, profile)
 }
 
-pub(crate) fn build_line(line: &[u8], at: usize, out: &mut [u8; 4096], end: usize) -> usize {
+pub(crate) fn build_line(
+    rt: &impl Print,
+    line: &[u8],
+    at: usize,
+    out: &mut [u8; 4096],
+    end: usize,
+) -> usize {
     let fields = take_profile(line, at);
     if fields.next != line.len() {
-        return put_unreadable(out, end);
+        return put_unreadable(rt, out, end);
     }
     let profile = fields.profile;
     let answer = rules::build(profile);
-    put_listing(out, end, answer)
+    put_listing(rt, out, end, answer)
 }
 
-pub(crate) fn check_line(line: &[u8], at: usize, out: &mut [u8; 4096], end: usize) -> usize {
+pub(crate) fn check_line(
+    rt: &impl Print,
+    line: &[u8],
+    at: usize,
+    out: &mut [u8; 4096],
+    end: usize,
+) -> usize {
     let port = take_profile(line, at);
     let fields = take_list(line, port.next);
     if fields.next != line.len() {
-        return put_unreadable(out, end);
+        return put_unreadable(rt, out, end);
     }
     let profile = port.profile;
     let list = fields.list;
     let answer = rules::check(profile, list);
-    put_verdict(out, end, answer)
+    put_verdict(rt, out, end, answer)
 }
 
-pub(crate) fn answer_call_line(line: &[u8], at: usize, out: &mut [u8; 4096], end: usize) -> usize {
+pub(crate) fn answer_call_line(
+    rt: &impl Print,
+    line: &[u8],
+    at: usize,
+    out: &mut [u8; 4096],
+    end: usize,
+) -> usize {
     let fields = take_list(line, at);
     let request = take_word(line, fields.next);
     if request.next != line.len() {
-        return put_unreadable(out, end);
+        return put_unreadable(rt, out, end);
     }
     let list = fields.list;
     let answer = requests::answer(list, request.value);
-    put_verdict(out, end, answer)
+    put_verdict(rt, out, end, answer)
 }

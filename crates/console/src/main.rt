@@ -8,6 +8,6 @@ mod port_calls;
 mod serving;
 mod table;
 
-fn main() {
-    serving::serve();
+fn main(rt: HostRuntime) {
+    serving::serve(&rt);
 }

@@ -59,6 +59,7 @@ fn all_emptied(table: Table) -> Table {
 
 // Each line function is handed where the word that names the call ended.
 pub(crate) fn set_up_line(
+    rt: &impl Print,
     line: &[u8],
     at: usize,
     out: &mut [u8; 4096],
@@ -67,11 +68,11 @@ pub(crate) fn set_up_line(
 ) -> Answered {
     let capacity = take_number(line, at);
     if capacity.next != line.len() {
-        return unreadable(out, end, table);
+        return unreadable(rt, out, end, table);
     }
     let standing = stand(table, HalfWatts(capacity.value), ports::FRESH);
     let verdict = standing.fault;
-    let told = put_verdict(out, end, verdict);
+    let told = put_verdict(rt, out, end, verdict);
     if verdict.number != verdicts::SUCCESS {
         return Answered { table, end: told };
     }
@@ -83,6 +84,7 @@ pub(crate) fn set_up_line(
 }
 
 pub(crate) fn attach_line(
+    rt: &impl Print,
     line: &[u8],
     at: usize,
     out: &mut [u8; 4096],
@@ -93,7 +95,7 @@ pub(crate) fn attach_line(
     let port = take_small_number(line, capacity.next);
     let cable = take_number(line, port.next);
     if cable.next != line.len() {
-        return unreadable(out, end, table);
+        return unreadable(rt, out, end, table);
     }
     let standing = stand(table, HalfWatts(capacity.value), ports::SOUND);
     let own = row_of(table, standing, port.value);
@@ -106,7 +108,7 @@ pub(crate) fn attach_line(
     );
     let row = change.row;
     let answer = ports::offer(change);
-    let told = put_listing(out, end, answer);
+    let told = put_listing(rt, out, end, answer);
     let after = written(table, change.at, row);
     Answered {
         table: after,
@@ -115,6 +117,7 @@ pub(crate) fn attach_line(
 }
 
 pub(crate) fn advertise_line(
+    rt: &impl Print,
     line: &[u8],
     at: usize,
     out: &mut [u8; 4096],
@@ -124,14 +127,14 @@ pub(crate) fn advertise_line(
     let capacity = take_number(line, at);
     let port = take_small_number(line, capacity.next);
     if port.next != line.len() {
-        return unreadable(out, end, table);
+        return unreadable(rt, out, end, table);
     }
     let standing = stand(table, HalfWatts(capacity.value), ports::SOUND);
     let own = row_of(table, standing, port.value);
     let change = ports::advertise(standing, own, HalfWatts(capacity.value), port.value);
     let row = change.row;
     let answer = ports::offer(change);
-    let told = put_listing(out, end, answer);
+    let told = put_listing(rt, out, end, answer);
     let after = written(table, change.at, row);
     Answered {
         table: after,
@@ -140,6 +143,7 @@ pub(crate) fn advertise_line(
 }
 
 pub(crate) fn request_line(
+    rt: &impl Print,
     line: &[u8],
     at: usize,
     out: &mut [u8; 4096],
@@ -150,7 +154,7 @@ pub(crate) fn request_line(
     let port = take_small_number(line, capacity.next);
     let asked = take_word(line, port.next);
     if asked.next != line.len() {
-        return unreadable(out, end, table);
+        return unreadable(rt, out, end, table);
     }
     let standing = stand(table, HalfWatts(capacity.value), ports::SOUND);
     let own = row_of(table, standing, port.value);
@@ -163,7 +167,7 @@ pub(crate) fn request_line(
     );
     let answer = change.answer;
     let row = change.row;
-    let told = put_verdict(out, end, answer);
+    let told = put_verdict(rt, out, end, answer);
     let after = written(table, change.at, row);
     Answered {
         table: after,
@@ -172,6 +176,7 @@ pub(crate) fn request_line(
 }
 
 pub(crate) fn detach_line(
+    rt: &impl Print,
     line: &[u8],
     at: usize,
     out: &mut [u8; 4096],
@@ -181,14 +186,14 @@ pub(crate) fn detach_line(
     let capacity = take_number(line, at);
     let port = take_small_number(line, capacity.next);
     if port.next != line.len() {
-        return unreadable(out, end, table);
+        return unreadable(rt, out, end, table);
     }
     let standing = stand(table, HalfWatts(capacity.value), ports::SOUND);
     let own = row_of(table, standing, port.value);
     let change = ports::detach(standing, own, HalfWatts(capacity.value), port.value);
     let answer = change.answer;
     let row = change.row;
-    let told = put_verdict(out, end, answer);
+    let told = put_verdict(rt, out, end, answer);
     let after = written(table, change.at, row);
     Answered {
         table: after,
@@ -197,6 +202,7 @@ pub(crate) fn detach_line(
 }
 
 pub(crate) fn remaining_line(
+    rt: &impl Print,
     line: &[u8],
     at: usize,
     out: &mut [u8; 4096],
@@ -205,12 +211,12 @@ pub(crate) fn remaining_line(
 ) -> Answered {
     let capacity = take_number(line, at);
     if capacity.next != line.len() {
-        return unreadable(out, end, table);
+        return unreadable(rt, out, end, table);
     }
     let standing = stand(table, HalfWatts(capacity.value), ports::SOUND);
     let left = ports::remaining(standing, HalfWatts(capacity.value));
     let verdict = left.verdict;
-    let told = put_verdict(out, end, verdict);
-    let all = put_field(out, told, left.power.0);
+    let told = put_verdict(rt, out, end, verdict);
+    let all = put_field(rt, out, told, left.power.0);
     Answered { table, end: all }
 }

@@ -1,8 +1,8 @@
 // From standard input to standard output, a block at a time.
 use crate::answering::answer_line;
 use crate::table::{Table, no_rows};
-use libc::{STDERR_FILENO, STDIN_FILENO};
 use lines::{flush, put, put_unreadable};
+use std::io::Read;
 
 // The console between two bytes. `length` counts the bytes of the line so far, and stays at 513 for a line of more than
 // 512; `end` is where the bytes that wait to be written end; `open` is false once the input has ended or nothing can be
@@ -19,12 +19,12 @@ struct Console {
 const TOO_LONG: usize = 513;
 
 // Answers the line in hand and begins the next one.
-fn end_line(line: &[u8], out: &mut [u8; 4096], console: Console) -> Console {
+fn end_line(rt: &impl Print, line: &[u8], out: &mut [u8; 4096], console: Console) -> Console {
     let table = console.table;
     let length = console.length;
     if line.len() < length {
-        let told = put_unreadable(out, console.end);
-        let end = put(out, told, b'\n');
+        let told = put_unreadable(rt, out, console.end);
+        let end = put(rt, out, told, b'\n');
         return Console {
             table,
             length: 0,
@@ -32,8 +32,8 @@ fn end_line(line: &[u8], out: &mut [u8; 4096], console: Console) -> Console {
             open: console.open,
         };
     }
-    let answered = answer_line(&line[0..length], table, out, console.end);
-    let end = put(out, answered.end, b'\n');
+    let answered = answer_line(rt, &line[0..length], table, out, console.end);
+    let end = put(rt, out, answered.end, b'\n');
     let after = answered.table;
     Console {
         table: after,
@@ -43,9 +43,15 @@ fn end_line(line: &[u8], out: &mut [u8; 4096], console: Console) -> Console {
     }
 }
 
-fn take_byte(b: u8, line: &mut [u8; 512], out: &mut [u8; 4096], console: Console) -> Console {
+fn take_byte(
+    rt: &impl Print,
+    b: u8,
+    line: &mut [u8; 512],
+    out: &mut [u8; 4096],
+    console: Console,
+) -> Console {
     if b == b'\n' {
-        return end_line(&*line, out, console);
+        return end_line(rt, &*line, out, console);
     }
     let mut longer = console;
     let length = console.length;
@@ -59,6 +65,7 @@ fn take_byte(b: u8, line: &mut [u8; 512], out: &mut [u8; 4096], console: Console
 }
 
 fn take_block(
+    rt: &impl Print,
     block: &[u8],
     line: &mut [u8; 512],
     out: &mut [u8; 4096],
@@ -67,7 +74,7 @@ fn take_block(
     let mut now = console;
     let mut i = 0;
     while i < block.len() {
-        now = take_byte(block[i], line, out, now);
+        now = take_byte(rt, block[i], line, out, now);
         i += 1;
     }
     now
@@ -79,13 +86,13 @@ fn closed(console: Console) -> Console {
     now
 }
 
-// A program has no exit status of its own to give, so it says here what it could not do.
-fn tell(text: &[u8]) {
-    io::write_all(STDERR_FILENO, text);
+// The program ends with status 0 whatever happened, so it says here what it could not do.
+fn tell(rt: &impl Eprint, text: &str) {
+    let _ = rt.eprint(text);
 }
 
-fn tell_unwritten() {
-    tell(b"console: standard output cannot be written\n");
+fn tell_unwritten(rt: &impl Eprint) {
+    tell(rt, "console: standard output cannot be written\n");
 }
 
 // What cannot be written is not written again, and no more lines are answered.
@@ -97,27 +104,38 @@ fn broken_off(console: Console) -> Console {
 }
 
 // Writes what waits, so that whoever typed the last line sees its answer, and then reads one block.
-fn serve_block(line: &mut [u8; 512], out: &mut [u8; 4096], console: Console) -> Console {
-    if !flush(&*out, console.end) {
-        tell_unwritten();
+fn serve_block(
+    rt: &(impl Print + Eprint),
+    input: &mut impl Read,
+    line: &mut [u8; 512],
+    out: &mut [u8; 4096],
+    console: Console,
+) -> Console {
+    if !flush(rt, &*out, console.end) {
+        tell_unwritten(rt);
         return broken_off(console);
     }
     let mut flushed = console;
     flushed.end = 0;
     let mut block = [0u8; 4096];
-    let got = libc::read(STDIN_FILENO, &mut block);
-    if got < 0 {
-        tell(b"console: standard input cannot be read\n");
-    }
-    if got <= 0 {
+    let got = input.read(&mut block);
+    let Ok(n) = got else {
+        tell(rt, "console: standard input cannot be read\n");
+        return closed(flushed);
+    };
+    if n == 0 {
         return closed(flushed);
     }
-    let n = io::count(got, &block);
-    take_block(&block[..n], line, out, flushed)
+    take_block(rt, &block[..n], line, out, flushed)
 }
 
 // A proved loop has to end, and nothing says that the input does. The turns are more than any run uses up.
-fn serve_blocks(line: &mut [u8; 512], out: &mut [u8; 4096]) -> Console {
+fn serve_blocks(
+    rt: &(impl Print + Eprint),
+    input: &mut impl Read,
+    line: &mut [u8; 512],
+    out: &mut [u8; 4096],
+) -> Console {
     let table = no_rows();
     let mut console = Console {
         table,
@@ -130,26 +148,27 @@ fn serve_blocks(line: &mut [u8; 512], out: &mut [u8; 4096]) -> Console {
         if !console.open {
             return console;
         }
-        console = serve_block(line, out, console);
+        console = serve_block(rt, input, line, out, console);
         turns -= 1;
     }
     console
 }
 
 // The end of the input ends the console. A line that it cuts off is answered first.
-fn end_input(line: &[u8; 512], out: &mut [u8; 4096], console: Console) {
+fn end_input(rt: &(impl Print + Eprint), line: &[u8; 512], out: &mut [u8; 4096], console: Console) {
     if console.length == 0 {
         return;
     }
-    let last = end_line(line, out, console);
-    if !flush(&*out, last.end) {
-        tell_unwritten();
+    let last = end_line(rt, line, out, console);
+    if !flush(rt, &*out, last.end) {
+        tell_unwritten(rt);
     }
 }
 
-pub(crate) fn serve() {
+pub(crate) fn serve(rt: &(impl Print + Eprint + Input)) {
+    let mut input = rt.reader();
     let mut line = [0u8; 512];
     let mut out = [0u8; 4096];
-    let console = serve_blocks(&mut line, &mut out);
-    end_input(&line, &mut out, console);
+    let console = serve_blocks(rt, &mut input, &mut line, &mut out);
+    end_input(rt, &line, &mut out, console);
 }

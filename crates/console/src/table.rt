@@ -76,8 +76,13 @@ pub(crate) fn row_at(table: Table, at: usize) -> Row {
     if at < 9 { rows[at] } else { NO_ROW }
 }
 
-pub(crate) fn unreadable(out: &mut [u8; 4096], end: usize, table: Table) -> Answered {
-    let told = put_unreadable(out, end);
+pub(crate) fn unreadable(
+    rt: &impl Print,
+    out: &mut [u8; 4096],
+    end: usize,
+    table: Table,
+) -> Answered {
+    let told = put_unreadable(rt, out, end);
     Answered { table, end: told }
 }
 
@@ -114,28 +119,28 @@ fn take_table(line: &[u8], at: usize) -> TableFields {
     TableFields { table, next }
 }
 
-fn put_row_count(out: &mut [u8; 4096], end: usize, table: Table) -> usize {
-    let at = put_text(out, end, b"rows");
+fn put_row_count(rt: &impl Print, out: &mut [u8; 4096], end: usize, table: Table) -> usize {
+    let at = put_text(rt, out, end, b"rows");
     // At most 9; the remainder only shows that it fits.
-    put_field(out, at, (table.count % 65536) as u16)
+    put_field(rt, out, at, (table.count % 65536) as u16)
 }
 
-fn put_row(out: &mut [u8; 4096], end: usize, row: Row) -> usize {
-    let max = put_field(out, end, row.max.0);
-    let pps = put_field(out, max, row.pps as u16);
-    let cable = put_field(out, pps, row.cable.0);
-    let present = put_field(out, cable, row.present.0);
-    put_field(out, present, row.held.0)
+fn put_row(rt: &impl Print, out: &mut [u8; 4096], end: usize, row: Row) -> usize {
+    let max = put_field(rt, out, end, row.max.0);
+    let pps = put_field(rt, out, max, row.pps as u16);
+    let cable = put_field(rt, out, pps, row.cable.0);
+    let present = put_field(rt, out, cable, row.present.0);
+    put_field(rt, out, present, row.held.0)
 }
 
-fn put_table(out: &mut [u8; 4096], end: usize, table: Table) -> usize {
+fn put_table(rt: &impl Print, out: &mut [u8; 4096], end: usize, table: Table) -> usize {
     let count = table.count;
-    let mut at = put_row_count(out, end, table);
+    let mut at = put_row_count(rt, out, end, table);
     let mut i: usize = 0;
     while i < 9 {
         if i < count {
             let row = row_at(table, i);
-            at = put_row(out, at, row);
+            at = put_row(rt, out, at, row);
         }
         i += 1;
     }
@@ -144,6 +149,7 @@ fn put_table(out: &mut [u8; 4096], end: usize, table: Table) -> usize {
 
 // Each line function is handed where the word that names the call ended.
 pub(crate) fn rows_line(
+    rt: &impl Print,
     line: &[u8],
     at: usize,
     out: &mut [u8; 4096],
@@ -152,10 +158,10 @@ pub(crate) fn rows_line(
 ) -> Answered {
     let fields = take_table(line, at);
     if fields.next != line.len() {
-        return unreadable(out, end, table);
+        return unreadable(rt, out, end, table);
     }
     let new = fields.table;
-    let told = put_row_count(out, end, new);
+    let told = put_row_count(rt, out, end, new);
     Answered {
         table: new,
         end: told,
@@ -163,6 +169,7 @@ pub(crate) fn rows_line(
 }
 
 pub(crate) fn table_line(
+    rt: &impl Print,
     line: &[u8],
     at: usize,
     out: &mut [u8; 4096],
@@ -170,8 +177,8 @@ pub(crate) fn table_line(
     table: Table,
 ) -> Answered {
     if at != line.len() {
-        return unreadable(out, end, table);
+        return unreadable(rt, out, end, table);
     }
-    let told = put_table(out, end, table);
+    let told = put_table(rt, out, end, table);
     Answered { table, end: told }
 }

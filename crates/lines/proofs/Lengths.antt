@@ -8,7 +8,7 @@ use native.Mathlib.Omega.{arith}
 use lib.Dec.{ltb}
 use lib.ListN.{length, get_or, length-append}
 use borrow.Author.Tests.{lt-ltb}
-use Rattle.lines.specs.Text.{digit, digit_from, decimal, hex_word, place_text, places_text, line_of}
+use Rattle.lines.specs.Text.{digit, digit_from, decimal, hex_word, place_text, places_text}
 
 either : (b : Bool) (xs ys : List ℕ) (most : ℕ) → length xs ≤ most → length ys ≤ most → length (cond b xs ys) ≤ most
 either true xs ys most h k = h

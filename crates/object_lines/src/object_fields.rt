@@ -170,23 +170,38 @@ pub(crate) fn take_objects(line: &[u8], at: usize, count: u8) -> ObjectFields {
     ObjectFields { list, next }
 }
 
-pub fn put_letter(out: &mut [u8; 4096], end: usize, letter: u8) -> usize {
-    let space = put(out, end, b' ');
-    put(out, space, letter)
+pub fn put_letter(rt: &impl Print, out: &mut [u8; 4096], end: usize, letter: u8) -> usize {
+    let space = put(rt, out, end, b' ');
+    put(rt, out, space, letter)
 }
 
-pub fn put_three(out: &mut [u8; 4096], end: usize, a: u16, b: u16, c: u16) -> usize {
-    let first = put_field(out, end, a);
-    let second = put_field(out, first, b);
-    put_field(out, second, c)
+pub fn put_three(
+    rt: &impl Print,
+    out: &mut [u8; 4096],
+    end: usize,
+    a: u16,
+    b: u16,
+    c: u16,
+) -> usize {
+    let first = put_field(rt, out, end, a);
+    let second = put_field(rt, out, first, b);
+    put_field(rt, out, second, c)
 }
 
-fn put_four(out: &mut [u8; 4096], end: usize, a: u8, b: u16, c: u16, d: u16) -> usize {
-    let first = put_field(out, end, a as u16);
-    put_three(out, first, b, c, d)
+fn put_four(
+    rt: &impl Print,
+    out: &mut [u8; 4096],
+    end: usize,
+    a: u8,
+    b: u16,
+    c: u16,
+    d: u16,
+) -> usize {
+    let first = put_field(rt, out, end, a as u16);
+    put_three(rt, out, first, b, c, d)
 }
 
-fn put_object(out: &mut [u8; 4096], end: usize, object: Object) -> usize {
+fn put_object(rt: &impl Print, out: &mut [u8; 4096], end: usize, object: Object) -> usize {
     match object {
         Object::Fixed {
             flags,
@@ -194,16 +209,16 @@ fn put_object(out: &mut [u8; 4096], end: usize, object: Object) -> usize {
             volts,
             current,
         } => {
-            let at = put_letter(out, end, b'F');
-            put_four(out, at, flags, peak as u16, volts.0, current.0)
+            let at = put_letter(rt, out, end, b'F');
+            put_four(rt, out, at, flags, peak as u16, volts.0, current.0)
         }
         Object::Battery { max, min, power } => {
-            let at = put_letter(out, end, b'B');
-            put_three(out, at, max.0, min.0, power.0)
+            let at = put_letter(rt, out, end, b'B');
+            put_three(rt, out, at, max.0, min.0, power.0)
         }
         Object::Variable { max, min, current } => {
-            let at = put_letter(out, end, b'V');
-            put_three(out, at, max.0, min.0, current.0)
+            let at = put_letter(rt, out, end, b'V');
+            put_three(rt, out, at, max.0, min.0, current.0)
         }
         Object::Pps {
             limited,
@@ -211,26 +226,31 @@ fn put_object(out: &mut [u8; 4096], end: usize, object: Object) -> usize {
             min,
             current,
         } => {
-            let at = put_letter(out, end, b'P');
-            put_four(out, at, limited, max.0, min.0, current.0)
+            let at = put_letter(rt, out, end, b'P');
+            put_four(rt, out, at, limited, max.0, min.0, current.0)
         }
         Object::Avs { peak, low, high } => {
-            let at = put_letter(out, end, b'A');
-            put_three(out, at, peak as u16, low.0, high.0)
+            let at = put_letter(rt, out, end, b'A');
+            put_three(rt, out, at, peak as u16, low.0, high.0)
         }
     }
 }
 
 // The count and as many objects.
-pub(crate) fn put_objects(out: &mut [u8; 4096], end: usize, list: Objects) -> usize {
+pub(crate) fn put_objects(
+    rt: &impl Print,
+    out: &mut [u8; 4096],
+    end: usize,
+    list: Objects,
+) -> usize {
     let count = list.count as usize;
-    let mut at = put_field(out, end, list.count as u16);
+    let mut at = put_field(rt, out, end, list.count as u16);
     let mut i: usize = 0;
     while i < 7 {
         if i < count {
             let place = list.places[i];
             let object = place.object;
-            at = put_object(out, at, object);
+            at = put_object(rt, out, at, object);
         }
         i += 1;
     }

@@ -1,5 +1,5 @@
 -- What the listing program prints for an input (STATEMENT, "The listing program"). `caps` is proved to make each of these lines,
--- `recordLine` and `endLine`; no contract can say in which order C's `write` gets them.
+-- `record_line` and `end_line`; no contract can say in which order the standard output gets them.
 -- Assumes nothing.
 use Rattle.std.specs.Prelude.{List, [], ◌++◌, ℕ, zero, suc, ◌*◌, ◌/◌, ◌%◌, length}
 use Rattle.lists.specs.Writing.{write_refused}

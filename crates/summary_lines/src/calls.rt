@@ -6,17 +6,23 @@ use object_lines::take_list;
 use summaries::TakenRequest;
 use verdicts::Verdict;
 
-pub fn summary_line(line: &[u8], at: usize, out: &mut [u8; 4096], end: usize) -> usize {
+pub fn summary_line(
+    rt: &impl Print,
+    line: &[u8],
+    at: usize,
+    out: &mut [u8; 4096],
+    end: usize,
+) -> usize {
     let fields = take_list(line, at);
     if fields.next != line.len() {
-        return put_unreadable(out, end);
+        return put_unreadable(rt, out, end);
     }
     let list = fields.list;
     let answer = summaries::summarize(list);
     let verdict = answer.verdict;
     let summary = answer.summary;
-    let told = put_verdict(out, end, verdict);
-    put_summary(out, told, summary)
+    let told = put_verdict(rt, out, end, verdict);
+    put_summary(rt, out, told, summary)
 }
 
 // The answer by way of the summary; a request to a battery object goes to the list.
@@ -36,13 +42,19 @@ fn answer_quickly(list: Words, word: u32) -> Verdict {
 }
 
 // A list and a request word.
-pub fn quick_line(line: &[u8], at: usize, out: &mut [u8; 4096], end: usize) -> usize {
+pub fn quick_line(
+    rt: &impl Print,
+    line: &[u8],
+    at: usize,
+    out: &mut [u8; 4096],
+    end: usize,
+) -> usize {
     let fields = take_list(line, at);
     let request = take_word(line, fields.next);
     if request.next != line.len() {
-        return put_unreadable(out, end);
+        return put_unreadable(rt, out, end);
     }
     let list = fields.list;
     let answer = answer_quickly(list, request.value);
-    put_verdict(out, end, answer)
+    put_verdict(rt, out, end, answer)
 }
