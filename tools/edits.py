@@ -347,6 +347,7 @@ class Prover:
             left = [edit for edit in own if not self.settled(crate, edit)]
             if not left:
                 continue
+            print(f"edits: {name}: trying {len(left)} of {len(own)} files", file=sys.stderr)
             self.build_below(crate)
             lines, needs = crate.count(rb"\n"), self.rt.need(crate)
             tasks[name, "seed"] = ([], 0, needs, lambda given, jobs, it=crate: self.seed_of(it))
