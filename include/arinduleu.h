@@ -4,7 +4,7 @@
  * travel in, and one supply shared by up to eight ports.
  *
  * The same header serves two libraries with the same calls. Link one of them:
- *   - libboard.a, which `rt staticlib board` writes to target/staticlib, for x86-64;
+ *   - libboard.a, which `tools/c_archive.sh` writes to target/staticlib, for x86-64;
  *   - libarinduleu_c.a, which cargo makes from rust/c, for any target that rustc knows.
  * tools/install.sh installs either of them, as libarinduleu.a, with this header.
  *

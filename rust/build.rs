@@ -38,8 +38,7 @@ fn main() {
     fs::write(out.join("refusals.rs"), sentences(&root)).unwrap();
 }
 
-/// Where the proved source is. A package that cargo made has it inside; in the repository links stand there, and where those came out as
-/// plain files, as without symbolic links, it is one folder up.
+/// Where the proved source is: one folder up in the repository. A package that tools/rust_package.sh made has it inside.
 fn root() -> PathBuf {
     let package = PathBuf::from(env::var("CARGO_MANIFEST_DIR").unwrap());
     if package.join("crates").is_dir() {

@@ -18,7 +18,7 @@ refusals and its version to the Rattle source and to cargo, and sees that an
 answer that is ignored is warned of. Builds and runs the C programs of examples
 and of tests/c
   - with cc, against the library that cargo makes from rust/c;
-  - with the clang of the Rattle kit, against the archive of `rt staticlib board`;
+  - with the clang of the Rattle kit, against the archive of tools/c_archive.sh;
 then the snippet of the README, and the example outside the tree with what
 tools/install.sh installed, by pkg-config and by CMake.
 What this machine has no tools for is skipped. The line before the last has
@@ -71,14 +71,14 @@ header_as() {
 # Each call has the mark. The longest message is the last of the limits, which stand in one line.
 header_names() {
   {
-    sed -n 's/^pub use .*::\(arin_[a-z_]*\);$/\1/p' crates/board/src/lib.rt
+    sed -n 's/^pub extern "C" fn \(arin_[a-z_]*\)(.*/\1/p' crates/board_c/src/*.rt
     sed -n 's/^pub const \([A-Z0-9_]*\): [a-z0-9]* = \([0-9]*\);$/ARIN_\1 = \2/p' \
       crates/verdicts/src/lib.rt crates/flat/src/lib.rt crates/messages/src/lib.rt crates/summaries/src/lib.rt
   } | sort > "$made/wanted"
   sed -n -e 's/^ARIN_MUST_USE struct [a-z_]* \(arin_[a-z_]*\)(.*/\1/p' -e 's/^    \(ARIN_[A-Z0-9_]* = [0-9]*\).*/\1/p' \
     -e 's/^enum { .* \(ARIN_[A-Z0-9_]* = [0-9]*\) };$/\1/p' "${headers[@]}" |
     sort > "$made/named"
-  diff "$made/wanted" "$made/named" >&2 || fail "the header does not name what crates/board, verdicts, flat, messages and summaries do"
+  diff "$made/wanted" "$made/named" >&2 || fail "the header does not name what crates/board_c, verdicts, flat, messages and summaries do"
   pass "the header names the calls, refusals, kinds, types and limits of the Rattle source, and the longest message ($(grep -c . "$made/named"))"
 }
 
@@ -345,8 +345,8 @@ against_kit() {
   for tool in clang ld.lld; do
     [ -x "$(kit_tools)/bin/$tool" ] || { skip "$part" "the kit has no $tool for this machine"; return; }
   done
-  (runner) > /dev/null 2>&1 || { skip "$part" "the kit has no emulator for this machine"; return; }
-  quietly "rt staticlib board did not pass" rt staticlib board
+  (runner) > /dev/null 2>&1 || { skip "$part" "this machine is no x86-64"; return; }
+  quietly "tools/c_archive.sh did not pass" tools/c_archive.sh
   with_kit -O2
   with_kit -O0
 }

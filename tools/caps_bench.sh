@@ -1,6 +1,6 @@
 #!/usr/bin/env bash
 # caps against bench/plain_caps.c, a plain C program of the same statement: a million seeded records, the same bytes out, times by turns.
-# Both are x86-64 programs and run the same way (under the kit's emulator where the machine is another).
+# Both are x86-64 programs and run the same way.
 set -euo pipefail
 cd "$(dirname "$0")/.."
 who=caps_bench
@@ -18,7 +18,8 @@ kit=$(kit_tools)
 for part in bin/clang bin/ld.lld lib/Scrt1.o lib/libc.so.6 lib/libc_nonshared.a lib/libgcc.a; do
   [ -e "$kit/$part" ] || skip "the kit has no toolchain/$part for this machine"
 done
-[ -x target/bin/caps ] || skip "target/bin/caps is not built (rt check caps builds it)"
+caps=$(built caps)
+[ -x "$caps" ] || skip "$caps is not built (rt run in crates/caps builds it)"
 
 made=$(mktemp -d)
 trap 'rm -rf "$made"' EXIT
@@ -48,10 +49,10 @@ with open(sys.argv[1], "wb") as out:
     out.write(b"\x48\x00\x48")
 END
 
-$with target/bin/caps < "$made/records" > "$made/caps.out"
+$with "$caps" < "$made/records" > "$made/caps.out"
 $with "$made/plain_caps" < "$made/records" > "$made/plain.out"
 cmp "$made/caps.out" "$made/plain.out" || { echo "caps_bench: the two programs differ" >&2; exit 1; }
-for empty in target/bin/caps "$made/plain_caps"; do
+for empty in "$caps" "$made/plain_caps"; do
   [ -z "$($with "$empty" < /dev/null)" ] || { echo "caps_bench: $empty prints something for no input" >&2; exit 1; }
 done
 
@@ -66,13 +67,13 @@ once() {
 
 for round in 1 2 3 4 5 6 7 8 9; do
   if [ $((round % 2)) = 1 ]; then
-    caps=$(once target/bin/caps)
+    ours=$(once "$caps")
     plain=$(once "$made/plain_caps")
   else
     plain=$(once "$made/plain_caps")
-    caps=$(once target/bin/caps)
+    ours=$(once "$caps")
   fi
-  echo "$caps $plain"
+  echo "$ours $plain"
 done > "$made/times"
 lines=$(wc -l < "$made/caps.out")
 bytes=$(wc -c < "$made/caps.out")

@@ -18,7 +18,7 @@ Builds the static library and installs, under DIR:
   --prefix DIR      where to, for instance /usr/local or a folder of a project;
                     it is made where it is not there, and may be moved later
   --library cargo   the library that cargo makes from rust/c (the default)
-  --library kit     the archive of `rt staticlib board`, for x86-64 Linux
+  --library kit     the archive of tools/c_archive.sh, for x86-64 Linux
   --target TRIPLE   what cargo builds for, for instance thumbv6m-none-eabi;
                     without it, this machine. A rustc that lacks the target and
                     has the sources of its core (rust-src) makes it from these
@@ -117,12 +117,10 @@ build_cargo() {
 }
 
 build_kit() {
-  local log
   need rt "--library kit"
   archive=target/staticlib/libboard.a
-  log=$(rt staticlib board 2>&1) || {
-    printf '%s\n' "$log" | tail -n 20 >&2
-    echo "$who: rt staticlib board did not pass" >&2
+  tools/c_archive.sh || {
+    echo "$who: tools/c_archive.sh did not pass" >&2
     exit 1
   }
 }

@@ -8,23 +8,24 @@ need_kit() {
   fi
 }
 
-# The folder of the kit's tools for this machine, with bin/ and lib/.
+# The folder of the kit's tools, with bin/ and lib/.
 kit_tools() {
-  echo "$(dirname "$(dirname "$(readlink -f "$(command -v rt)")")")/on/$(uname -m)/toolchain"
+  echo "$(dirname "$(dirname "$(readlink -f "$(command -v rt)")")")/toolchain"
 }
 
-# The words that stand before a program to run it, as rt itself runs programs: the kit's loader with its C library, and before these the
-# kit's emulator where the machine is not x86-64.
+# The words that stand before a program to run it: the kit's loader with its C library.
 runner() {
-  local machine tools emulator
+  local machine tools
   machine=$(uname -m)
   tools=$(kit_tools)
-  emulator="$tools/bin/qemu-x86_64"
-  if [ "$machine" = x86_64 ]; then
-    emulator=
-  elif [ ! -x "$emulator" ]; then
-    echo "$who: programs are for x86-64, this machine is $machine, and the kit has no emulator for it" >&2
+  if [ "$machine" != x86_64 ]; then
+    echo "$who: programs are for x86-64, and this machine is $machine" >&2
     exit 2
   fi
-  echo "$emulator $tools/lib/ld-linux-x86-64.so.2 --library-path $tools/lib"
+  echo "$tools/lib/ld-linux-x86-64.so.2 --library-path $tools/lib"
+}
+
+# Where rt leaves a program that it built.
+built() {
+  echo "crates/$1/out/$1"
 }

@@ -2,8 +2,10 @@
 
 usage: python3 tools/public_calls.py [ROOT]
 
-A function is public when another crate can reach it: it stands in lib.rt, lib.rt has a `pub use module::name;` for it, or it
-is a method of a type that is public in this way. Programs, which have a main.rt, and the crates in EXEMPT are not asked.
+A function is public when another crate can reach it: it stands in lib.rt, lib.rt has a `pub use module::name;` or
+`pub use module::{name, ..};` for it, or it is a method of a type that is public in this way. Programs, which have a main.rt, and the crates in
+EXEMPT are not asked. No crate can reach into a static library, NAME_c: its exports have to be the public functions of the library NAME, each with
+the arguments, the answer and the clauses that it has there.
 Each public function has one row under "## Every public function":
 
     | `crate::name` or `crate::Type::name` | what it refuses, or "nothing" | outcome | refusals | unread places |
@@ -11,7 +13,7 @@ Each public function has one row under "## Every public function":
 The last three cells are theorems of crates/demands/proofs, `name` or `name`, `name`, or a dash and a reason: "- takes no list".
 "No second outcome" is asked of all, and a theorem of refusals of each that refuses something. The contract has an `ensures`
 and no `requires`. A function that gives the number of a refusal has its line in the claim that none gives a withdrawn one, Never21 in
-WITHDRAWN: `default_profile` is `default-profile` there. What gives one is a function whose second cell has a number or "own", and those
+WITHDRAWN, under its own name. What gives one is a function whose second cell has a number or "own", and those
 of HANDED, which refuse nothing themselves and give the number that they are handed.
 """
 
@@ -35,46 +37,65 @@ def lines_of(path):
 
 
 def crates_of(root, faults):
-    """The library crates of crates.txt, in its order."""
-    names = [line.split(":")[0] for line in lines_of(root / "crates.txt") if line.strip() and not line.startswith("#")]
-    found = []
-    for name in names:
+    """The libraries of crates.txt, in its order, and the static libraries."""
+    words = [line.split(":")[0].split() for line in lines_of(root / "crates.txt") if line.strip() and not line.startswith("#")]
+    libraries, static = [], []
+    for name, *kind in words:
         source = root / "crates" / name / "src"
         if name in EXEMPT or (source / "main.rt").is_file():
             continue
-        if (source / "lib.rt").is_file():
-            found.append(name)
-        else:
+        if not (source / "lib.rt").is_file():
             faults.append(f"crates.txt: {name} has no src/lib.rt and no src/main.rt")
-    return found
+        elif "staticlib" in kind:
+            static.append(name)
+        else:
+            libraries.append(name)
+    return libraries, static
+
+
+def items_of(lines):
+    """Each item of `pub use`, with its line: the one that it begins in, where it goes on to a line with its end."""
+    number = 0
+    while number < len(lines):
+        number, line, at = number + 1, lines[number], number + 1
+        while re.match(r"pub use [^;]*$", line) and number < len(lines):
+            number, line = number + 1, f"{line} {lines[number].strip()}"
+        yield at, line
 
 
 def offered_by(source, place, faults):
     """What lib.rt offers by name: the types that stand there or in a module, and each `module::name` of its `pub use` lines."""
     types, uses = set(), set()
-    for number, line in enumerate(lines_of(source / "lib.rt"), 1):
+    for number, line in items_of(lines_of(source / "lib.rt")):
         declared = re.match(r"pub (?:struct|enum) (\w+)", line)
-        used = re.fullmatch(r"pub use (\w+)::(\w+);", line)
+        used = re.fullmatch(r"pub use (\w+)::(?:(\w+)|\{([\w, ]+)\});", line)
         if declared:
             types.add(declared[1])
         elif used and (source / f"{used[1]}.rt").is_file():
-            types.add(used[2])
-            uses.add(f"{used[1]}::{used[2]}")
+            for name in re.findall(r"\w+", used[2] or used[3]):
+                types.add(name)
+                uses.add(f"{used[1]}::{name}")
         elif re.match(r"pub (use|mod)\b", line):
             faults.append(f"{place}/lib.rt:{number}: this form is not read here: {line}")
     return types, uses
 
 
-def clauses_from(lines):
-    """The words that begin the clauses of the function that stands first. Its body begins at the first other brace."""
-    words = []
+def head_of(lines):
+    """The lines of the function that stands first, up to its body: that begins at a brace of its signature, or at one below its clauses."""
+    head, clauses = [], False
     for line in lines:
-        clause = re.match(r"\s*(requires|ensures)\b", line)
-        if clause:
-            words.append(clause[1])
-        elif "{" in line:
-            break
-    return words
+        clauses = clauses or re.match(r"\s*(requires|ensures)\b", line) is not None
+        if not clauses and "{" in line:
+            return [*head, line[: line.index("{")]]
+        if clauses and line.startswith(f"{' ' * (len(lines[0]) - len(lines[0].lstrip()))}{{"):
+            return head
+        head.append(line)
+    return head
+
+
+def clauses_from(lines):
+    """The words that begin the clauses of the function that stands first."""
+    return [match[1] for match in (re.match(r"\s*(requires|ensures)\b", line) for line in head_of(lines)) if match]
 
 
 def functions_in(path, place, faults):
@@ -165,7 +186,7 @@ def judge_withdrawn(root, rows, faults):
     for place, cells in rows:
         if len(cells) != 5:
             continue
-        name = cells[0].strip("`").split("::")[-1].replace("_", "-")
+        name = cells[0].strip("`").split("::")[-1]
         public.add(name)
         gives = cells[0] in HANDED or re.search(r"\d|own", cells[1])
         if gives and name not in claimed:
@@ -198,6 +219,40 @@ def judge_table(root, functions, faults):
     return named
 
 
+def promises_in(root, crate):
+    """The head of each public function outside of impls, as one line without what makes it an export, and the `ghost use` lines of its file."""
+    found = {}
+    for path in sorted((root / "crates" / crate / "src").glob("*.rt")):
+        lines = lines_of(path)
+        uses = {line for line in lines if line.startswith("ghost use ")}
+        for at, line in enumerate(lines):
+            function = re.match(r'pub (?:extern "C" )?fn (\w+)', line)
+            if function:
+                found[function[1]] = " ".join(" ".join(head_of(lines[at:])).replace('pub extern "C" fn', "pub fn").split()), path.name, uses
+    return found
+
+
+def judge_exports(root, static, functions, faults):
+    """How many exports there are: each says of its answer what the library's function of that name does."""
+    exported = 0
+    for crate in static:
+        library = crate.removesuffix("_c")
+        theirs, ours = promises_in(root, library), promises_in(root, crate)
+        public = {name.split("::")[1] for name in functions if name.startswith(f"{library}::") and name.count("::") == 1}
+        for name in sorted(public - set(ours)):
+            faults.append(f"crates/{crate}: {library}::{name} is public and not exported")
+        for name, (head, file, uses) in ours.items():
+            place = f"crates/{crate}/src/{file}"
+            if name not in public:
+                faults.append(f"{place}: {name} is exported, and {library} has no such public function")
+            elif head != theirs[name][0]:
+                faults.append(f"{place}: {name} has not the arguments, the answer and the clauses of {library}: {head}")
+            elif not uses <= theirs[name][2]:
+                faults.append(f"{place}: {name} has its words from elsewhere than {library}: {', '.join(sorted(uses - theirs[name][2]))}")
+            exported += 1
+    return exported
+
+
 def judge_contracts(functions, faults):
     for name, (place, clauses) in functions.items():
         if "ensures" not in clauses:
@@ -215,15 +270,17 @@ def main(words):
         return 2
     root = Path(words[0] if words else Path(__file__).parent.parent).resolve()
     faults, functions = [], {}
-    for crate in crates_of(root, faults):
+    libraries, static = crates_of(root, faults)
+    for crate in libraries:
         functions.update((name, (place, clauses)) for name, place, clauses in public_functions(root, crate, faults))
     judge_contracts(functions, faults)
     named = judge_table(root, functions, faults)
+    exported = judge_exports(root, static, functions, faults)
     for fault in faults:
         print(fault, file=sys.stderr)
     if faults:
         return 1
-    print(f"public: {len(functions)} functions, each with its theorems ({len(named)} theorems)")
+    print(f"public: {len(functions)} functions, each with its theorems ({len(named)} theorems), and {exported} exports with the clauses of theirs")
     return 0
 
 

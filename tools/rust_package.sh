@@ -12,10 +12,10 @@ case "${1:-}" in
     cat << 'END'
 usage: tools/rust_package.sh
 
-Makes the package of rust/ with `cargo package`, which builds it once, unpacks
-it in an empty folder, and builds and runs the program of README.md, "From
-Rust", against it there; then the same program as the README has it, with its
-dependency line, beside this folder. The documentation is made without a
+Copies rust/ with the proved source inside, makes the package of that with
+`cargo package`, which builds it once, unpacks it in an empty folder, and builds
+and runs the program of README.md, "From Rust", against it there; then the same
+program as the README has it, with its dependency line, beside this folder. The documentation is made without a
 warning. That a public function without a comment does not build, and that an
 answer which is ignored is warned of, is tried too.
 Nothing is written outside a temporary folder. What this machine has no tools
@@ -60,8 +60,16 @@ prints() {
   pass "the program of the README prints what it says, $2"
 }
 
+# The proved source stands beside rust/ and not in it, so that the repository has each file once. cargo packages what is inside.
+staged() {
+  mkdir "$made/staged"
+  tar -cf - --exclude=./target -C rust . | tar -xf - -C "$made/staged"
+  tar -cf - --exclude='crates/*/out' crates crates.txt include | tar -xf - -C "$made/staged"
+}
+
 make_package() {
-  quietly "cargo does not make the package" cargo package --offline --allow-dirty --manifest-path rust/Cargo.toml
+  staged
+  quietly "cargo does not make the package" cargo package --offline --allow-dirty --manifest-path "$made/staged/Cargo.toml"
   mkdir "$made/unpacked"
   tar -xzf "$CARGO_TARGET_DIR"/package/arinduleu-*.crate -C "$made/unpacked" --strip-components=1
   pass "cargo makes the package, and what it made builds ($(find "$made/unpacked" -type f | grep -c .) files)"

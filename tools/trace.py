@@ -189,7 +189,8 @@ def judge_statement(root, sections, faults):
 def names_of_code(root):
     """Every name in the code, the proofs and the wrong answers of the crates, without comments, and the crates themselves."""
     found = {path.name for path in (root / "crates").iterdir()}
-    for path in (root / "crates").rglob("*"):
+    # Not what rt makes, in out/.
+    for path in (path for part in ("src", "specs", "proofs", "must-fail") for path in (root / "crates").glob(f"*/{part}/**/*")):
         if path.suffix in (".rt", ".antt", ".edit"):
             text = re.sub(r"(--|//) .*", "", path.read_text(encoding="utf-8"))
             found.update(re.findall(r"[A-Za-z_][\w-]*", text))

@@ -4,13 +4,14 @@
 /// One source file as Rust. Beside the ghost text that is gone, these differ from the file:
 /// - a comment right above an item, and one above a field or a variant, is a doc comment, and the one at the head of the file is the
 ///   module's;
-/// - structs and enums derive `Clone`, `Copy` (every Rattle value is copied), `PartialEq`, `Eq`, `Hash` and `Debug`, which those in
+/// - structs and enums, which derive `Clone` and `Copy` in the source, derive `PartialEq`, `Eq`, `Hash` and `Debug` too, which those in
 ///   `DEBUG_BY_HAND` do not, and some `Default` or an order (`ZERO_BY_DEFAULT`, `ORDERED`);
 /// - a public function that returns something is marked `#[must_use]`: a verdict that nobody looks at is a slip;
 /// - `crate::` names the Rattle crate, which is a module here;
 /// - functions are marked `#[inline]`: most are a few lines, and rustc looks into those of another package only where they are marked;
 /// - a struct of one number is `#[repr(transparent)]` and not `#[repr(C)]`: the same bytes, but handed on as the number itself;
-/// - `#[no_mangle]` and `extern "C"` are gone: `rust/c` has the C names.
+/// - `#[unsafe(no_mangle)]` and `extern "C"` are gone: `rust/c` has the C names;
+/// - what says which tactics the prover tries is gone, and so is a `prove!(..);`, which costs nothing when it runs.
 pub struct Stripped {
     pub text: String,
     /// The modules that the file declares. Each stands in the text as a line `mod NAME;`.
@@ -101,6 +102,11 @@ const OBJECTS_AND_WORDS: [&str; 8] = [
 
 const REPR_C: &str = "#[repr(C)]\n";
 
+/// What every struct and enum of ours derives in Rattle.
+const DERIVED: &str = "#[derive(Clone, Copy)]\n";
+
+const EXPORTED: &str = "#[unsafe(no_mangle)]\n";
+
 const TRANSPARENT: &str = "#[repr(transparent)]\n";
 
 /// Words of contracts and proofs that may stand inside a body; none of ours has one.
@@ -123,6 +129,7 @@ pub fn strip(file: &str, krate: &str, source: &str) -> Result<Stripped, String> 
         line: 1,
         out: String::new(),
         modules: Vec::new(),
+        indent: 0,
     };
     reader.head()?;
     reader.items(true)?;
@@ -139,6 +146,8 @@ struct Reader<'a> {
     line: usize,
     out: String,
     modules: Vec<String>,
+    // Of the function that is read.
+    indent: usize,
 }
 
 impl<'a> Reader<'a> {
@@ -232,11 +241,22 @@ impl<'a> Reader<'a> {
         if self.rest.starts_with("//") {
             return self.comment(self.mark());
         }
-        if self.rest.starts_with("#[no_mangle]\n") {
-            self.take("#[no_mangle]\n".len());
+        if self.rest.starts_with("#![tactic(") || self.rest.starts_with("#[tactic(") {
+            return self.tactics();
+        }
+        if self.rest.starts_with(EXPORTED) {
+            self.take(EXPORTED.len());
+            return Ok(());
+        }
+        if let Some(behind) = self.rest.strip_prefix(DERIVED) {
+            if !is_type(behind.strip_prefix(REPR_C).unwrap_or(behind)) {
+                return self.fail("a derive without its type");
+            }
+            self.take(DERIVED.len());
             return Ok(());
         }
         if let Some(behind) = self.rest.strip_prefix(REPR_C) {
+            let behind = behind.strip_prefix(DERIVED).unwrap_or(behind);
             if is_one_number(behind.lines().next().unwrap_or("")) {
                 self.take(REPR_C.len());
                 self.out.push_str(TRANSPARENT);
@@ -276,14 +296,38 @@ impl<'a> Reader<'a> {
         }
     }
 
-    // One line, and nothing but it: a later semicolon is that of another item, which has to stay.
+    // One line, and nothing but it: a later semicolon is that of another item, which has to stay. Or a group with a line for each name, and a
+    // last line that only ends it.
     fn ghost_use(&mut self) -> Result<(), String> {
-        let n = self.line_length();
+        let mut n = self.line_length();
         let line = self.rest[..n].trim_end();
+        if line.ends_with('{') && !line.contains(';') {
+            while self.rest[n..].starts_with("  ") && !line_of(&self.rest[n..]).contains(';') {
+                n += line_of(&self.rest[n..]).len();
+            }
+            if self.rest[n..].starts_with("};\n") {
+                self.take(n + "};\n".len());
+                return Ok(());
+            }
+        }
         if line.find(';') != Some(line.len() - 1) {
             return self.fail("a ghost use does not end with its line");
         }
         self.take(n);
+        Ok(())
+    }
+
+    // `#![tactic(..)]` of a file or `#[tactic(..)]` of a function, on a line of its own.
+    fn tactics(&mut self) -> Result<(), String> {
+        let n = self.line_length();
+        let line = self.rest[..n].trim_end();
+        if line.find(']') != Some(line.len() - 1) || !line.ends_with(")]") {
+            return self.fail("an attribute does not end with its line");
+        }
+        self.take(n);
+        // The indentation of the line is copied already: that of the next one comes now.
+        let indent = self.out.len() - self.out.trim_end_matches(' ').len();
+        self.out.truncate(self.out.len() - indent);
         Ok(())
     }
 
@@ -341,6 +385,7 @@ impl<'a> Reader<'a> {
     // The signature, the contract, which goes, and the body.
     fn function(&mut self, visible: &str) -> Result<(), String> {
         let indent = self.out.len() - self.out.trim_end_matches(' ').len();
+        self.indent = indent;
         let (given, behind) = self.rest.split_once(')').unwrap_or(("", ""));
         let name = given.split(|c| !is_word(c)).nth(1).unwrap_or("");
         let known = format!("{}::{name}", self.krate);
@@ -389,9 +434,10 @@ impl<'a> Reader<'a> {
         }
     }
 
-    // `requires { .. }` or `ensures NAME { .. }`, on one line: a brace that is missing can take no code along.
+    // `requires { .. }` or `ensures NAME { .. }`, on one line, or with further lines that are indented more: a brace that is missing can take no
+    // code along.
     fn clause(&mut self) -> Result<(), String> {
-        let n = self.line_length();
+        let mut n = self.line_length();
         let line = self.rest[..n].trim_end();
         let Some(open) = line.find('{') else {
             return self.fail("a clause has no braces");
@@ -399,21 +445,29 @@ impl<'a> Reader<'a> {
         if !line[..open].chars().all(|c| is_word(c) || c == ' ') {
             return self.fail("an unknown form of clause");
         }
+        let deeper = format!("{}     ", " ".repeat(self.indent));
+        while self.rest[n..].starts_with(&deeper) {
+            n += line_of(&self.rest[n..]).len();
+        }
+        let clause = self.rest[..n].trim_end();
+        if clause.contains('\n') && clause.contains("//") {
+            return self.fail("a comment in a clause of several lines");
+        }
         let mut depth = 0;
-        for (at, c) in line.char_indices().skip(open) {
+        for (at, c) in clause.char_indices().filter(|(at, _)| *at >= open) {
             match c {
                 '{' => depth += 1,
                 '}' => depth -= 1,
                 _ => {}
             }
-            if depth == 0 && at + 1 < line.len() {
+            if depth == 0 && at + 1 < clause.len() {
                 return self.fail("a clause does not end with its line");
             }
         }
         if depth != 0 {
             return self.fail("a clause does not end with its line");
         }
-        self.take(line.len());
+        self.take(clause.len());
         Ok(())
     }
 
@@ -469,12 +523,29 @@ impl<'a> Reader<'a> {
         Ok(())
     }
 
+    // `prove!(..);`, a statement on a line of its own.
+    fn proved(&mut self) -> Result<(), String> {
+        let n = self.line_length();
+        let indent = self.out.len() - self.out.trim_end_matches(' ').len();
+        let alone = self.out[..self.out.len() - indent].ends_with('\n');
+        let line = self.rest[..n].trim_end();
+        if !alone || !line.ends_with(");") || line.find(';') != Some(line.len() - 1) {
+            return self.fail("a proved condition is no line of its own");
+        }
+        self.take(n);
+        self.out.truncate(self.out.len() - indent);
+        Ok(())
+    }
+
     fn code_word(&mut self) -> Result<(), String> {
         let word = self.word();
         if GHOST_WORDS.contains(&word) {
             return self.fail("ghost text where none is known");
         }
         let behind = &self.rest[word.len()..];
+        if word == "prove" && behind.starts_with("!(") {
+            return self.proved();
+        }
         if behind.starts_with('!') && !behind.starts_with("!=") {
             return self.fail("a macro");
         }
@@ -488,6 +559,20 @@ impl<'a> Reader<'a> {
         }
         Ok(())
     }
+}
+
+// Whether a struct or an enum begins here.
+fn is_type(text: &str) -> bool {
+    let item = ["pub(crate) ", "pub "]
+        .into_iter()
+        .find_map(|v| text.strip_prefix(v))
+        .unwrap_or(text);
+    item.starts_with("struct ") || item.starts_with("enum ")
+}
+
+// The first line, with its end.
+fn line_of(text: &str) -> &str {
+    text.split_inclusive('\n').next().unwrap_or("")
 }
 
 // Of a type by its crate and name.

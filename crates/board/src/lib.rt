@@ -1,5 +1,5 @@
 // What firmware calls: the sharing calls over lent rows (docs/STATEMENT.md, "Ports that share"), every call on lists, those of
-// sinks too, summaries, and whole messages, each under a C name that begins with `arin_`. `rt staticlib board` makes one archive of them.
+// sinks too, summaries, and whole messages, each under a C name that begins with `arin_`. `board_c` exports them to C.
 
 #![tactic(auto)]
 

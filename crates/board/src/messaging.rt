@@ -5,16 +5,14 @@ use messages::{Message, MessageReading, Written};
 
 // The message that these bytes are, all of them. Refusals: 40, 42, 41, 53; then for a Source_Capabilities those of `arin_shape`, with their
 // places. The word of a Request is not judged: `arin_answer` and `arin_request` do that.
-#[unsafe(no_mangle)]
-pub extern "C" fn arin_read_message(bytes: &[u8]) -> MessageReading
+pub fn arin_read_message(bytes: &[u8]) -> MessageReading
     ensures { ArinReadsMessage bytes.now result }
 {
     messages::read_message(bytes)
 }
 
 // The same without the list check, so that a list whose shape fails can be looked at. Refusals: 40, 42, 41, 53.
-#[unsafe(no_mangle)]
-pub extern "C" fn arin_take_message(bytes: &[u8]) -> MessageReading
+pub fn arin_take_message(bytes: &[u8]) -> MessageReading
     ensures { ArinTakesMessage bytes.now result }
 {
     messages::take_message(bytes)
@@ -23,8 +21,7 @@ pub extern "C" fn arin_take_message(bytes: &[u8]) -> MessageReading
 // Writes a message into the buffer, from its first byte on, and answers how many bytes that are: `messages::LONGEST_MESSAGE` is enough for
 // each. What lies past them stays as it was. Refusals: 51, 42, 41, 53, 52; then for a Source_Capabilities those of `arin_shape`, with their
 // places. On a refusal no byte is written.
-#[unsafe(no_mangle)]
-pub extern "C" fn arin_write_message(bytes: &mut [u8], message: Message) -> Written
+pub fn arin_write_message(bytes: &mut [u8], message: Message) -> Written
     ensures { ArinWritesMessage bytes.old message result bytes.new }
 {
     messages::write_message(bytes, message)

@@ -9,8 +9,7 @@ use verdicts::Verdict;
 
 // Empties every port: cable 0, present power 0, 15 half watts held. Of the rows as lent only `max` and `pps` matter. The capacity is in half
 // watts, from 15 for each row to 1600, and the same in each call. Refusals: 30, 32, then row by row 31, 4 (the row).
-#[unsafe(no_mangle)]
-pub extern "C" fn arin_set_up(rows: &mut [Row], capacity: u16) -> Verdict
+pub fn arin_set_up(rows: &mut [Row], capacity: u16) -> Verdict
     ensures { SharesSetUp rows.old capacity result rows.new }
 {
     let standing = stand(&*rows, HalfWatts(capacity), ports::FRESH);
@@ -21,8 +20,7 @@ pub extern "C" fn arin_set_up(rows: &mut [Row], capacity: u16) -> Verdict
 
 // A cable came to an empty port, with what it carries in 10 mA, 100 to 500; port n is `rows[n - 1]`. Sets its present power to the smaller of
 // its maximum and what the other ports leave, and answers the list to send. Refusals: 30, 32, 37 (the first row at fault, or 0), 33, 3, 34 (the row).
-#[unsafe(no_mangle)]
-pub extern "C" fn arin_attach(rows: &mut [Row], capacity: u16, port: u8, cable: u16) -> Listing
+pub fn arin_attach(rows: &mut [Row], capacity: u16, port: u8, cable: u16) -> Listing
     ensures { SharesAttach rows.old capacity port cable result rows.new }
 {
     let rating = Ma10(cable);
@@ -35,8 +33,7 @@ pub extern "C" fn arin_attach(rows: &mut [Row], capacity: u16, port: u8, cable: 
 
 // The same again for an attached port: its present power anew, and the list to send. What it holds stays. Refusals: 30, 32, 37 (the
 // first row at fault, or 0), 33, 35 (the row).
-#[unsafe(no_mangle)]
-pub extern "C" fn arin_advertise(rows: &mut [Row], capacity: u16, port: u8) -> Listing
+pub fn arin_advertise(rows: &mut [Row], capacity: u16, port: u8) -> Listing
     ensures { SharesAdvertise rows.old capacity port result rows.new }
 {
     let standing = stand(&*rows, HalfWatts(capacity), ports::SOUND);
@@ -50,8 +47,7 @@ pub extern "C" fn arin_advertise(rows: &mut [Row], capacity: u16, port: u8) -> L
 // up to a half watt, at least 15 half watts, and for PPS at most its present power. On a refusal it holds what it held. 36 is given exactly
 // when the list allows the request and the other ports leave less than it would hold. Reserved bits of the word are ignored, in what is
 // held too. Refusals: 30, 32, 37 (the first row at fault, or 0), 33, 35 (the row), then 20, 23, 22, 24, 25, then 36 (the row).
-#[unsafe(no_mangle)]
-pub extern "C" fn arin_request(rows: &mut [Row], capacity: u16, port: u8, word: u32) -> Verdict
+pub fn arin_request(rows: &mut [Row], capacity: u16, port: u8, word: u32) -> Verdict
     ensures { SharesRequest rows.old capacity port word result rows.new }
 {
     let standing = stand(&*rows, HalfWatts(capacity), ports::SOUND);
@@ -62,8 +58,7 @@ pub extern "C" fn arin_request(rows: &mut [Row], capacity: u16, port: u8, word: 
 }
 
 // The cable of an attached port is gone: empties the port. Refusals: 30, 32, 37 (the first row at fault, or 0), 33, 35 (the row).
-#[unsafe(no_mangle)]
-pub extern "C" fn arin_detach(rows: &mut [Row], capacity: u16, port: u8) -> Verdict
+pub fn arin_detach(rows: &mut [Row], capacity: u16, port: u8) -> Verdict
     ensures { SharesDetach rows.old capacity port result rows.new }
 {
     let standing = stand(&*rows, HalfWatts(capacity), ports::SOUND);
@@ -74,8 +69,7 @@ pub extern "C" fn arin_detach(rows: &mut [Row], capacity: u16, port: u8) -> Verd
 }
 
 // What no port holds. An empty port holds 15 half watts. Refusals: 30, 32, 37 (the first row at fault, or 0).
-#[unsafe(no_mangle)]
-pub extern "C" fn arin_remaining(rows: &[Row], capacity: u16) -> RemainingPower
+pub fn arin_remaining(rows: &[Row], capacity: u16) -> RemainingPower
     ensures { SharesRemaining rows.now capacity result }
 {
     let standing = stand(rows, HalfWatts(capacity), ports::SOUND);

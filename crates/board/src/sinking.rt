@@ -8,16 +8,14 @@ use steps::HalfWatts;
 use verdicts::Verdict;
 
 // Whether these words make a sink list. Refusals: 10; 11 (place 1); then word by word 12, 13, 15, 16, 14 (the word).
-#[unsafe(no_mangle)]
-pub extern "C" fn arin_sink_shape(list: Words) -> Verdict
+pub fn arin_sink_shape(list: Words) -> Verdict
     ensures { ArinSinkShapes list result }
 {
     sinks::sink_shape(list)
 }
 
 // The objects of a sink list; peak current and power limited, which no sink has, are zero. Refusals: those of `arin_sink_shape`.
-#[unsafe(no_mangle)]
-pub extern "C" fn arin_sink_read(list: Words) -> FlatReading
+pub fn arin_sink_read(list: Words) -> FlatReading
     ensures { ArinSinkReads list result }
 {
     flat::flat_read_for(Side::Sink, list)
@@ -26,16 +24,14 @@ pub extern "C" fn arin_sink_read(list: Words) -> FlatReading
 // The words of a list of sink objects; their peak current and power limited are not looked at. Refusals: 10; 7 (the first such object);
 // then those of `arin_sink_shape` for the words made. An object whose kind is none of the four has no field that could be too wide: it gets
 // 11 where it is the first, else 12 at its place.
-#[unsafe(no_mangle)]
-pub extern "C" fn arin_sink_write(list: FlatObjects) -> Listing
+pub fn arin_sink_write(list: FlatObjects) -> Listing
     ensures { ArinSinkWrites list result }
 {
     flat::flat_write_for(Side::Sink, list)
 }
 
 // Whether a sink list keeps to the rating, in half watts, that the sink is designed for. Refusals: 1; those of `arin_sink_shape`; 43.
-#[unsafe(no_mangle)]
-pub extern "C" fn arin_sink_check(rating: u16, list: Words) -> Verdict
+pub fn arin_sink_check(rating: u16, list: Words) -> Verdict
     ensures { ArinSinkChecks rating list result }
 {
     sinks::sink_check(HalfWatts(rating), list)

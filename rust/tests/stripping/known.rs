@@ -4,9 +4,18 @@ use crate::strip::strip;
 
 const SOURCE: &str = r#"// What the file is for,
 // in two lines.
-ghost use a·b.{_≤_, c};
+
+#![tactic(auto)]
+
+ghost use a.b.{◌≤◌, c};
+ghost use a.c.{
+  d,
+  e_f,
+};
+
 use crate::inner::x;
-use steps::Ma10;
+use crate::{Y, Z};
+use steps::{Ma10, Mv20};
 
 mod inner;
 
@@ -14,6 +23,7 @@ pub use inner::y;
 
 // A struct.
 #[repr(C)]
+#[derive(Clone, Copy)]
 pub struct S {
     // A field.
     pub a: u16,
@@ -21,8 +31,15 @@ pub struct S {
 }
 
 #[repr(C)]
+#[derive(Clone, Copy)]
 pub struct T(pub u16);
 
+// The other way round.
+#[derive(Clone, Copy)]
+#[repr(C)]
+pub struct U(pub u16);
+
+#[derive(Clone, Copy)]
 struct Empty;
 
 // ---- a heading
@@ -44,19 +61,24 @@ pub const NONE: S = S {
 
 impl T {
     // A method.
+    #[tactic(auto, using(half, low {1}))]
     pub fn half(self) -> u16
-        requires { ⌜ 1 ≤ self .0 ⌝ }
-        ensures { λ r. ⌜ r ≡ half {self .0} ⌝ }
+        requires { 1 ≤ self.0 }
+        ensures { result ≡ half {self.0} }
     {
         // Why.
+        prove!(self.0 > 0);
         self.0 / 2
     }
 }
 
 // A call from C.
-#[no_mangle]
+#[unsafe(no_mangle)]
 pub extern "C" fn f(rows: &mut [S], n: u8) -> u8
-    ensures named { λ r. ⌜ r ≡ 0 ⌝ }
+    requires small { n ≤ 3 }
+    requires long { (1 ≤ length rows.old)
+        × (length rows.old ≤ 9) }
+    ensures named { result ≡ 0 }
 {
     let mut i: usize = 0; // Behind code.
     while i < rows.len() {
@@ -69,7 +91,7 @@ pub extern "C" fn f(rows: &mut [S], n: u8) -> u8
 fn nothing() {}
 
 pub fn nothing_back(a: &mut [S])
-    ensures { λ _. ⌜ a ⌝ }
+    ensures { a }
 {}
 
 pub(crate) fn plain(a: &[S]) -> bool {
@@ -86,8 +108,12 @@ pub fn by_side(side: Side, n: u8) -> u8
 
 const STRIPPED: &str = r#"//! What the file is for,
 //! in two lines.
+
+
+
 use crate::home::inner::x;
-use steps::Ma10;
+use crate::home::{Y, Z};
+use steps::{Ma10, Mv20};
 
 mod inner;
 
@@ -105,6 +131,11 @@ pub struct S {
 #[repr(transparent)]
 #[derive(Clone, Copy, PartialEq, Eq, Hash, Debug)]
 pub struct T(pub u16);
+
+/// The other way round.
+#[repr(transparent)]
+#[derive(Clone, Copy, PartialEq, Eq, Hash, Debug)]
+pub struct U(pub u16);
 
 #[derive(Clone, Copy, PartialEq, Eq, Hash, Debug)]
 struct Empty;
@@ -183,7 +214,7 @@ fn every_known_form() {
 #[test]
 fn derives_of_a_type() {
     let derived = |krate, item| {
-        let source = format!("// Why.\n\n{item}\n");
+        let source = format!("// Why.\n\n#[derive(Clone, Copy)]\n{item}\n");
         let text = strip("x.rt", krate, &source).unwrap().text;
         text.lines().nth(2).unwrap().to_string()
     };

@@ -10,12 +10,33 @@ const LIBRARY: [&str; 12] = [
     "ports", "flat", "board",
 ];
 
-/// Line by line, and without reading Rust at all: every file of ours keeps contracts and `ghost use` on lines of their own.
+/// Line by line, and without reading Rust at all: every file of ours keeps contracts and `ghost use` on lines of their own. What goes on has
+/// further lines that are indented more, and a `ghost use` one more line that ends it.
 fn without_ghost_lines(name: &str, text: &str) -> Vec<String> {
-    let ghost = ["ghost use ", "ensures ", "requires ", "#[no_mangle]"];
-    let kept = text
-        .lines()
-        .filter(|line| !ghost.iter().any(|g| line.trim_start().starts_with(g)));
+    let ghost = [
+        "ghost use ",
+        "ensures ",
+        "requires ",
+        "prove!(",
+        "#[unsafe(no_mangle)]",
+        "#[tactic(",
+        "#![tactic(",
+        "#[derive(Clone, Copy)]",
+    ];
+    let indent = |line: &str| line.len() - line.trim_start().len();
+    let mut kept = Vec::new();
+    let mut above = None;
+    for line in text.lines() {
+        if above.is_some_and(|a| indent(line) > a) || above == Some(0) && line == "};" {
+            continue;
+        }
+        let is_ghost = ghost.iter().any(|g| line.trim_start().starts_with(g));
+        above = is_ghost.then_some(indent(line));
+        if !is_ghost {
+            kept.push(line);
+        }
+    }
+    let kept = kept.into_iter();
     kept.map(|line| match line.trim_start().starts_with("//") {
         true => line.to_string(),
         false => line

@@ -58,14 +58,24 @@ fn unknown_attributes() {
     for attribute in [
         "#[inline]",
         "#[derive(Clone)]",
+        "#[derive(Clone, Copy, Debug)]",
         "#[repr(u8)]",
         "#[repr(C, packed)]",
         "#[cfg(test)]",
         "#![allow(x)]",
-        "#[no_mangle] // Why.",
+        "#[no_mangle]",
+        "#[unsafe(no_mangle)] // Why.",
     ] {
         refused(&format!("{attribute}\nfn f() {{}}\n"), 3, "an unknown item");
     }
+    let derive = "a derive without its type";
+    refused("#[derive(Clone, Copy)]\nfn f() {}\n", 3, derive);
+    refused("#[derive(Clone, Copy)]\n\nstruct S;\n", 3, derive);
+    let end = "an attribute does not end with its line";
+    refused("#[tactic(auto)] // Why.\nfn f() {}\n", 3, end);
+    refused("#[tactic(auto)] fn f() {}\n", 3, end);
+    refused("#[tactic(auto,\n    using(a))]\nfn f() {}\n", 3, end);
+    refused("#![tactic(auto)] use a;\n", 3, end);
     refused(
         "fn f() {\n    #[allow(x)]\n    g();\n}\n",
         4,
@@ -108,6 +118,19 @@ fn ghost_text_elsewhere() {
     refused("struct S {\n    ghost a: u8,\n}\n", 4, ghost);
     refused("const A: u8 = ghost;\n", 3, ghost);
     refused("use proof::a;\n", 3, ghost);
+    let proved = "a proved condition is no line of its own";
+    for text in [
+        "let a = prove!(b);",
+        "prove!(b); x();",
+        "prove!(b)",
+        "prove!(b); // Why.",
+        "prove!(\n        b,\n    );",
+        "x(); prove!(b);",
+    ] {
+        refused(&format!("fn f() {{\n    {text}\n}}\n"), 4, proved);
+    }
+    refused("const A: () = prove!(b);\n", 3, proved);
+    refused("fn f() {\n    prove! (b);\n}\n", 4, "a macro");
 }
 
 #[test]
@@ -152,6 +175,16 @@ fn unknown_clauses() {
     refused("fn f()\n    ensures { a {\n{ 1 }\n", 4, open);
     refused("fn f()\n    ensures { a\n    }\n{ 1 }\n", 4, open);
     refused("fn f()\n    ensures { a } { 1 }\n", 4, open);
+    // A clause goes on in lines that are indented more, up to its own brace.
+    refused("fn f()\n    ensures { a\n        }\n        b\n{ 1 }\n", 4, open);
+    refused("fn f()\n    ensures { a }\n        { 1 }\n", 4, open);
+    refused("fn f()\n    ensures { a {\n        b }\n{ 1 }\n", 4, open);
+    refused("fn f()\n    ensures { a\n\n        b }\n{ 1 }\n", 4, open);
+    refused(
+        "fn f()\n    ensures { a // }\n        b }\n{ 1 }\n",
+        4,
+        "a comment in a clause of several lines",
+    );
     refused("fn f()\n    ensures { a } // Why.\n{ 1 }\n", 4, open);
     refused(
         "fn f()\n    requires a\n{ 1 }\n",
@@ -201,6 +234,9 @@ fn no_end() {
     refused("ghost use a.b; // Why.\nuse c;\n", 3, ghost);
     refused("ghost use a.b; use c;\nuse d;\n", 3, ghost);
     refused("ghost use a.{\n    b};\n", 3, ghost);
+    refused("ghost use a.{\n  b,\n}; use c;\n", 3, ghost);
+    refused("ghost use a.{\n  b,\nuse c;\n};\n", 3, ghost);
+    refused("ghost use a.{\n  b; use c;\n};\n", 3, ghost);
 }
 
 /// A doc comment belongs to what follows it, so one behind code would go astray.
