@@ -90,7 +90,7 @@ module _ (capacity : ℕ) (start : List Row) (es : List Event) (ys : List Row) (
       go : (b : Bool) → eqb (answer_of list word).number 0 ≡ b → CanHold capacity (length start) h port word
       go true t =
           let allowed = accepts list word (eqb-true (answer_of list word).number 0 t) in
-          record { in_use_lem = in_use_lem; allowed = allowed; power_there = (now.accepted_else port word r zs s in_use_lem allowed).0 q }
+          record { in_use = in_use_lem; allowed = allowed; power_there = (now.accepted_else port word r zs s in_use_lem allowed).0 q }
       go false t =
           let f : answer_of list word ≡ success → ⊥ = λ z. eqb-false (answer_of list word).number 0 t (ap (λ (v : Verdict). v.number) z) in
           absurd (f (sym (now.own_refusal port word r zs s in_use_lem f) ∙ q))
