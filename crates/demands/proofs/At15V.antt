@@ -4,7 +4,6 @@ use mathlib.Core.Path.{sym, subst}
 use Prim.Native.Nat.{ℕ, max}
 use Rattle.verdicts.specs.declared.Verdict.{Verdict}
 use Rattle.steps.specs.Units.{ma10}
-use Rattle.steps.specs.declared.Ma10.{Ma10}
 use Rattle.lists.specs.declared.Words.{Words}
 use Rattle.requests.specs.At15V.{AllowsUpTo}
 use Rattle.requests.proofs.At15V as there

@@ -1,19 +1,19 @@
 -- Proves the claims of specs/Ceilings.antt.
 -- Assumes nothing.
-use mathlib.Core.Path.{◌≡◌, refl, sym, ap, ap₂, ◌∙◌, subst}
+use mathlib.Core.Path.{◌≡◌, refl, sym, ap, ap₂, ◌∙◌}
 use mathlib.Core.Bool.{Bool, true, false, not, cond, ◌&&◌}
 use mathlib.Core.List.{List}
 use mathlib.Core.Logic.{◌↔◌}
-use Prim.Native.Nat.{ℕ, ◌*◌, ◌≤◌, ◌<◌}
+use Prim.Native.Nat.{ℕ, ◌*◌, ◌<◌}
 use native.Mathlib.Omega.{arith}
-use lib.Dec.{ltb, leb, eqb}
+use lib.Dec.{leb, eqb}
 use lib.ListN.{get_or}
 use borrow.Author.Tests.{eqb-true, eqb-false, le-leb, leb-true, not-false}
 use Rattle.verdicts.specs.declared.Verdict.{Verdict}
 use Rattle.verdicts.specs.Refusals.{Refusal, each_place, success, verdict, verdict_of, NoneApply}
 use Rattle.verdicts.proofs.First.{none_at, none_all, none_applied, all_missed, number_passes, pass_places, numbered_places}
 use Rattle.steps.specs.declared.HalfWatts.{HalfWatts}
-use Rattle.steps.specs.Units.{mv100, mw500}
+use Rattle.steps.specs.Units.{mw500}
 use Rattle.steps.proofs.StepTests.{past, at, product}
 use Rattle.objects.specs.declared.Side.TheVariants.{Sink}
 use Rattle.lists.specs.declared.Words.{Words}
@@ -29,7 +29,7 @@ use Rattle.sinks.proofs.Ceilings.{above_product, by_tenths}
 use Rattle.sinks.proofs.Checks.{rated, by_figures}
 use Rattle.sinks.proofs.Readings.{sink_read_verdict, sink_read_passes}
 use Rattle.sinks.proofs.RoundTrips.{sink_word_known}
-use Rattle.demands.specs.Ceilings.{pps_divided_by, needs, WithinRating, Checkable, EachWithin, KeepsToRating, ArinKeepsToRating}
+use Rattle.demands.specs.Ceilings.{pps_divided_by, needs, Checkable, EachWithin, KeepsToRating, ArinKeepsToRating}
 
 -- ---- one object
 

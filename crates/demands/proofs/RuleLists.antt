@@ -17,7 +17,6 @@ use Rattle.rules.specs.Building.{built_words}
 use Rattle.rules.specs.Checking.{check_refusals, checked_of}
 use Rattle.rules.proofs.Checks.{check_verdict}
 use Rattle.requests.specs.Answering.{named_by, named_refusals, answer_of}
-use Rattle.ports.specs.declared.Row.{Row}
 use Rattle.ports.specs.RuleLists.{rule_profile, rule_list}
 use Rattle.ports.proofs.RuleLists.{rule_list_is, rule_profile_passes, rule_list_clear}
 use Rattle.rules.proofs.BuiltPasses.{check_clear}

@@ -1,13 +1,12 @@
 -- Proves the claims of specs/SinkRoundTrips.antt.
 -- Assumes nothing.
-use mathlib.Core.Path.{◌≡◌, refl, sym, ap, ◌∙◌, subst}
+use mathlib.Core.Path.{◌≡◌, sym, ap, ◌∙◌}
 use Prim.Native.Nat.{ℕ, ◌<◌}
 use lib.Dec.{eqb}
 use lib.ListN.{get_or}
 use Rattle.verdicts.specs.declared.Verdict.{Verdict}
 use Rattle.verdicts.specs.Refusals.{NoneApply}
 use Rattle.objects.specs.declared.Side.TheVariants.{Sink}
-use Rattle.objects.specs.declared.Object.{Object}
 use Rattle.objects.specs.declared.Decoded.{Decoded}
 use Rattle.objects.specs.declared.Decoded.TheVariants as decoded
 use Rattle.objects.specs.declared.Encoded.TheVariants.{Word}
@@ -31,7 +30,6 @@ use Rattle.sinks.specs.SinkLists.{sink_shape_refusals, empty_sink, sink_place, s
 use Rattle.sinks.proofs.SinkWords.{sink_decoded_is, sink_encoded_is}
 use Rattle.sinks.proofs.Readings.{sink_read_passes}
 use Rattle.sinks.proofs.RoundTrips as sinks
-use Rattle.flat.specs.declared.FlatObject.{FlatObject}
 use Rattle.flat.specs.declared.FlatReading.{FlatReading}
 use Rattle.flat.specs.Flat.{flat_of}
 use Rattle.flat.specs.Reading.{empty_flat, flat_reading, flat_reading_for}

@@ -2,7 +2,7 @@
 -- Assumes nothing.
 use mathlib.Core.Path.{◌≡◌, refl, sym, ap, ◌∙◌, subst}
 use mathlib.Core.Bool.{Bool, true, false}
-use mathlib.Core.Logic.{◌↔◌, ◌⊎◌, inl, inr}
+use mathlib.Core.Logic.{◌⊎◌, inl, inr}
 use mathlib.Core.List.{List, []}
 use Prim.Native.Nat.{ℕ, ◌*◌, ◌%◌, ◌≤◌, ◌<◌, max}
 use native.Mathlib.Omega.{arith}
@@ -11,12 +11,8 @@ use borrow.Author.Tests.{leb-true, leb-false}
 use Rattle.verdicts.specs.declared.Verdict.{Verdict}
 use Rattle.verdicts.specs.Refusals.{verdict, success, NoneApply}
 use Rattle.steps.specs.Units.{mv25, ma50}
-use Rattle.steps.specs.declared.Mv25.{Mv25}
-use Rattle.steps.specs.declared.Ma50.{Ma50}
-use Rattle.objects.specs.declared.Side.TheVariants.{Source}
 use Rattle.objects.specs.declared.Object.{Object}
 use Rattle.objects.specs.declared.Object.TheVariants as object
-use Rattle.objects.specs.declared.Decoded.{Decoded}
 use Rattle.objects.specs.declared.Decoded.TheVariants.{Known}
 use Rattle.objects.proofs.Saying.{decoded_is}
 use Rattle.lists.specs.declared.Words.{Words}
@@ -25,20 +21,17 @@ use Rattle.lists.specs.Shape.{shape_refusals, shape_for, shape_of}
 use Rattle.lists.proofs.Sevens.{at_blank, seven_long}
 use Rattle.verdicts.proofs.First.{all_missed}
 use Rattle.rules.specs.declared.Profile.{Profile}
-use Rattle.rules.specs.Building.{built_words}
 use Rattle.rules.proofs.BuiltPasses.{shape_clear}
 use Rattle.requests.specs.Taking.{position_of, mismatch_of, taken_apart}
 use Rattle.requests.specs.Limits.{avs_limit}
 use Rattle.requests.proofs.AvsLimits.{limit_at_lem}
-use Rattle.summaries.specs.declared.Summary.{Summary}
 use Rattle.summaries.specs.declared.Summarized.{Summarized}
-use Rattle.summaries.specs.declared.QuickRequest.{QuickRequest}
 use Rattle.summaries.specs.declared.QuickRequest.TheVariants as quick
 use Rattle.summaries.specs.declared.QuickAsked.{QuickAsked}
 use Rattle.summaries.specs.declared.TakenRequest.{TakenRequest}
 use Rattle.summaries.specs.declared.TakenRequest.TheVariants.{Refused, Battery, Quick}
 use Rattle.summaries.specs.Summaries.{below_in, above_in, no_limits, limits_in, limits_at, summary_of, summarized_of}
-use Rattle.summaries.specs.Taking.{quick_of, taken_of, asked_as}
+use Rattle.summaries.specs.Taking.{quick_of, taken_of}
 use Rattle.summaries.specs.Answering.{range_by, judged_by, row_of, answered_by}
 use Rattle.summaries.proofs.Makings.{summary_passes}
 use Rattle.summaries.proofs.Takings.{of_object_lem}
@@ -48,8 +41,7 @@ use Rattle.summaries.proofs.Agreement.{row_at, placed_alike, alike, refused_20, 
 use Rattle.flat.specs.declared.FlatTaken.{FlatTaken}
 use Rattle.flat.specs.Requesting.{taken_as, flat_taken_by, flat_request_of, flat_answered_of}
 use Rattle.flat.proofs.Requests.{flat_taken, request_again, by_decoded_request}
-use Rattle.demands.specs.CallContracts.{DecodeAnswers, ShapeAnswers, BuildAnswers, TakeApartAnswers, AnswerAnswers}
-use Rattle.demands.specs.SummaryContracts.{SummarizeAnswers}
+use Rattle.demands.specs.CallContracts.{ShapeAnswers, BuildAnswers}
 use Rattle.demands.specs.Summaries.{SaysOf, SummaryRowByRow, BuiltRowByRow, IsBattery, DecodedAs, DecodedForTheKind, flat_for, ArinDecodedForTheKind, SummaryAgrees, TakenApartAgrees, OutsideIs20, BuiltAgrees, ArinSummaryAgrees, SummaryAt15V}
 use Rattle.demands.proofs.PowerRules.{built_clear, built_list}
 

@@ -4,7 +4,7 @@ use mathlib.Core.Path.{◌≡◌, refl, sym, ap, ◌∙◌, subst}
 use mathlib.Core.Bool.{true}
 use Prim.Native.Nat.{ℕ}
 use Rattle.verdicts.specs.declared.Verdict.{Verdict}
-use Rattle.verdicts.specs.Refusals.{success, verdict}
+use Rattle.verdicts.specs.Refusals.{success}
 use Rattle.verdicts.proofs.First.{numbered, exactly, telling_numbered}
 use Rattle.objects.specs.declared.Side.TheVariants.{Source}
 use Rattle.lists.specs.declared.Words.{Words}

@@ -17,7 +17,7 @@ use Rattle.lists.specs.Reading.{read_of}
 use Rattle.lists.specs.Writing.{write_of}
 use Rattle.rules.specs.declared.Profile.{Profile}
 use Rattle.rules.specs.declared.Profiled.{Profiled}
-use Rattle.rules.specs.Profiles.{half_watts, bad_cable, build_refusals, defaults, default_refusals, default_of, profile_refused}
+use Rattle.rules.specs.Profiles.{half_watts, build_refusals, default_refusals, default_of, profile_refused}
 use Rattle.rules.specs.Building.{built_count, built_words}
 use Rattle.rules.proofs.Builds.{build_clear}
 use Rattle.ports.specs.declared.Row.{Row}

@@ -20,7 +20,7 @@ use Rattle.lists.specs.declared.Listing.{Listing}
 use Rattle.lists.specs.Shape.{bad_count}
 use Rattle.rules.specs.declared.Profile.{Profile}
 use Rattle.requests.specs.Taking.{position_of, mismatch_of, operating_in, maximum_in, pps_volts, avs_volts, current_in}
-use Rattle.requests.specs.Answering.{bad_position, named_by}
+use Rattle.requests.specs.Answering.{bad_position}
 use Rattle.summaries.specs.declared.Summary.{Summary}
 use Rattle.summaries.specs.declared.Summarized.{Summarized}
 use Rattle.summaries.specs.declared.QuickRequest.TheVariants as quick

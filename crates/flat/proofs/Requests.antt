@@ -2,13 +2,12 @@
 -- Assumes nothing.
 use mathlib.Core.Path.{◌≡◌, refl, sym, ap, ◌∙◌, subst}
 use mathlib.Core.Bool.{Bool, true, false, not}
-use mathlib.Core.List.{List, ◌∷◌}
 use Prim.Native.Nat.{ℕ, zero, suc}
 use lib.Dec.{eqb}
 use native.Mathlib.Omega.{arith}
 use borrow.Author.Tests.{ne_eqb}
 use Rattle.verdicts.specs.declared.Verdict.{Verdict}
-use Rattle.verdicts.specs.Refusals.{Refusal, refusal, verdict, success, verdict_of}
+use Rattle.verdicts.specs.Refusals.{verdict, success, verdict_of}
 use Rattle.verdicts.proofs.First.{numbered, hit, miss}
 use Rattle.lists.specs.declared.Words.{Words}
 use Rattle.summaries.specs.declared.Summary.{Summary}

@@ -1,7 +1,7 @@
 -- Both round trips of a flat list, of either side: one that is read is written back to its words, and one that is written reads back to what
 -- its side keeps.
 -- Assumes nothing.
-use mathlib.Core.Path.{◌≡◌, refl, sym, ap, ◌∙◌, subst}
+use mathlib.Core.Path.{◌≡◌, refl, sym, ap, ◌∙◌}
 use mathlib.Core.Bool.{true, false}
 use mathlib.Core.List.{List}
 use Prim.Native.Nat.{ℕ, ◌<◌}
@@ -12,7 +12,6 @@ use Rattle.objects.specs.declared.Side.{Side}
 use Rattle.objects.specs.declared.Side.TheVariants.{Source, Sink}
 use Rattle.objects.specs.declared.Object.{Object}
 use Rattle.objects.specs.declared.Decoded.{Decoded}
-use Rattle.objects.specs.declared.Decoded.TheVariants as decoded
 use Rattle.objects.specs.declared.Encoded.{Encoded}
 use Rattle.objects.specs.declared.Encoded.TheVariants.{Word}
 use Rattle.objects.specs.Decode.{decode_of, decode_for, allowed_for, decoded_number}

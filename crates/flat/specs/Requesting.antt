@@ -4,7 +4,7 @@
 -- Assumes nothing.
 use Rattle.std.specs.Prelude.{Bool, not, ◌||◌, cond, List, ◌∷◌, ℕ, zero, suc, eqb}
 use Rattle.verdicts.specs.declared.Verdict.{Verdict}
-use Rattle.verdicts.specs.Refusals.{Refusal, refusal, verdict, success, verdict_of}
+use Rattle.verdicts.specs.Refusals.{Refusal, refusal, success, verdict_of}
 use Rattle.steps.specs.declared.Mv20.{Mv20}
 use Rattle.steps.specs.declared.Mv25.{Mv25}
 use Rattle.steps.specs.declared.Ma10.{Ma10}

@@ -1,10 +1,9 @@
 -- Whether an AVS object matches its fixed objects: the cases that the code tells apart.
 -- Assumes nothing.
-use mathlib.Core.Path.{◌≡◌, refl, sym, ap, ◌∙◌}
-use mathlib.Core.Bool.{Bool, true, false, not, ◌&&◌, ◌||◌}
+use mathlib.Core.Path.{◌≡◌}
+use mathlib.Core.Bool.{true, false, not}
 use mathlib.Core.List.{List}
 use Prim.Native.Nat.{ℕ}
-use lib.Dec.{eqb}
 use borrow.Author.Tests.{eq-eqb, ne_eqb}
 use Rattle.steps.specs.declared.Ma10.{Ma10}
 use Rattle.lists.specs.Shape.{has_fixed, avs_matches}

@@ -2,13 +2,13 @@
 -- Assumes nothing.
 use mathlib.Core.Path.{◌≡◌, refl, sym, ap, ◌∙◌, subst}
 use mathlib.Core.Bool.{true, false}
-use mathlib.Core.List.{List, [], ◌∷◌, ◌++◌}
+use mathlib.Core.List.{List, [], ◌∷◌}
 use Prim.Native.Nat.{ℕ, ◌+◌, ◌<◌}
 use lib.Dec.{eqb}
 use borrow.Author.Tests.{ne_eqb}
 use lib.ListN.{set, replicate}
 use Rattle.verdicts.specs.declared.Verdict.{Verdict}
-use Rattle.verdicts.specs.Refusals.{Refusal, refusal, each_place, first_of, verdict, success, verdict_of, NoneApply}
+use Rattle.verdicts.specs.Refusals.{Refusal, refusal, each_place, first_of, success, verdict_of, NoneApply}
 use Rattle.verdicts.proofs.First.{hit, miss, onward, onto, all_missed, refused_so, none_yet, none_more, decided, none_applied, passes, numbered, number_not_0, numbered_rest, numbered_append, numbered_places}
 use Rattle.objects.specs.declared.Side.{Side}
 use Rattle.objects.specs.declared.Encoded.{Encoded}

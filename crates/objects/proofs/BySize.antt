@@ -1,8 +1,8 @@
 -- The kind of a word by how large the word is: a number in its highest bits is told by its bounds.
 -- Assumes nothing.
-use mathlib.Core.Path.{◌≡◌, refl, sym, ap, ap₂, ◌∙◌}
+use mathlib.Core.Path.{◌≡◌, refl, ap, ap₂, ◌∙◌}
 use mathlib.Core.Bool.{Bool, true, false, cond}
-use Prim.Native.Nat.{ℕ, zero, suc, ◌+◌, ◌*◌, ◌/◌, ◌%◌, ◌^◌, ◌≤◌, ◌<◌}
+use Prim.Native.Nat.{ℕ, ◌+◌, ◌*◌, ◌/◌, ◌%◌, ◌≤◌, ◌<◌}
 use native.Mathlib.Nat.{le-div_iff_mul-le, div-lt_iff_lt-mul, mod-eq_of_lt}
 use native.Mathlib.Omega.{arith}
 use lib.Dec.{ltb}
@@ -11,7 +11,7 @@ use Rattle.objects.specs.Bits.{bits}
 use Rattle.objects.specs.declared.Side.TheVariants.{Sink}
 use Rattle.objects.specs.declared.Object.{Object}
 use Rattle.objects.specs.declared.Decoded.{Decoded}
-use Rattle.objects.specs.Decode.{pps_of, by_kind, by_augmented, kind_bits, decode_of, decoded_says, zero_object, not_allowed_for, word_says_for}
+use Rattle.objects.specs.Decode.{pps_of, by_kind, kind_bits, decode_of, decoded_says, zero_object, not_allowed_for, word_says_for}
 use Rattle.objects.proofs.Cases.{kind_short, kind_long, short_is, long_is}
 
 -- a word from k times a power up to the next multiple has k above that power

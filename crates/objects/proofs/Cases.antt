@@ -11,7 +11,6 @@ use borrow.Author.Tests.{eqb-true, eqb-false, ne_eqb}
 use Rattle.objects.specs.Bits.{bits}
 use Rattle.objects.specs.Decode.{by_augmented, by_kind, kind_bits, is_kind, decode_of, kind_number}
 use Rattle.objects.specs.declared.Object.{Object}
-use Rattle.objects.specs.declared.Object.TheVariants.{Fixed, Battery, Variable, Pps, Avs}
 use Rattle.objects.specs.declared.Decoded.{Decoded}
 use Rattle.objects.specs.declared.Decoded.TheVariants.{Known, NotAllowed}
 use Rattle.objects.proofs.Taking.{bits_lt}

@@ -1,25 +1,23 @@
 -- Both round trips of one word and one object, over the definitions.
 -- Assumes nothing.
-use mathlib.Core.Path.{◌≡◌, refl, sym, ap, ◌∙◌, subst}
+use mathlib.Core.Path.{◌≡◌, refl, ap, ◌∙◌, subst}
 use mathlib.Core.Bool.{Bool, true, false, ◌&&◌, and-eq-true_iff}
-use mathlib.Core.List.{List, [], ◌∷◌}
-use Prim.Native.Nat.{ℕ, zero, suc, ◌+◌, ◌*◌, ◌/◌, ◌%◌, ◌^◌, ◌<◌}
-use lib.Dec.{eqb}
+use mathlib.Core.List.{List}
+use Prim.Native.Nat.{ℕ, zero, suc, ◌^◌, ◌<◌}
 use borrow.Author.Tests.{eqb-true, not-false}
 use native.Mathlib.Omega.{arith}
 use Rattle.objects.specs.Bits.{bits}
-use Rattle.objects.specs.Layout.{Field, field, all_fit, joined}
+use Rattle.objects.specs.Layout.{Field, all_fit, joined}
 use Rattle.objects.specs.Decode.{fixed_of, battery_of, variable_of, pps_of, avs_of, by_kind, by_augmented, decode_of, decode_for}
 use Rattle.objects.specs.Reserved.{clear, fixed_clear, reserved_clear, reserved_set}
 use Rattle.objects.specs.declared.Side.{Side}
-use Rattle.objects.specs.declared.Side.TheVariants.{Source, Sink}
+use Rattle.objects.specs.declared.Side.TheVariants.{Source}
 use Rattle.objects.specs.Encode.{fields_of, if_fit, word_of, encode_of}
 use Rattle.objects.specs.declared.Object.{Object}
 use Rattle.objects.specs.declared.Object.TheVariants.{Fixed, Battery, Variable, Pps, Avs}
 use Rattle.objects.specs.declared.Decoded.{Decoded}
 use Rattle.objects.specs.declared.Decoded.TheVariants.{Known, NotAllowed}
-use Rattle.objects.specs.declared.Encoded.{Encoded}
-use Rattle.objects.specs.declared.Encoded.TheVariants.{Word, TooWide}
+use Rattle.objects.specs.declared.Encoded.TheVariants.{Word}
 use Rattle.objects.proofs.Taking.{bits_lt}
 use Rattle.objects.proofs.SetBits.{clear_within}
 use Rattle.objects.proofs.Cases.{kind_is, augmented_is}

@@ -1,7 +1,7 @@
 -- A word is the sum of its fields, and the fields of such a sum are the fields again: proved once, over any row of fields that leaves no gap.
 -- Assumes nothing.
 use mathlib.Core.Path.{◌≡◌, refl, sym, ap, ap₂, ◌∙◌, subst}
-use mathlib.Core.Bool.{Bool, true, false, ◌&&◌, and-eq-true_iff}
+use mathlib.Core.Bool.{Bool, true, ◌&&◌, and-eq-true_iff}
 use mathlib.Core.List.{List, [], ◌∷◌}
 use Prim.Native.Nat.{ℕ, ◌+◌, ◌-◌, ◌*◌, ◌/◌, ◌%◌, ◌^◌, ◌<◌, ◌≤◌}
 use native.Mathlib.Nat.{add_comm, mul_comm, mul_assoc, add-mul, zero-mul, mul-one, div-one, mod-one, mod-lt, mod-eq_of_lt}

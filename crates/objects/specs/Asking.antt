@@ -1,7 +1,7 @@
 -- What is asked of an object, or of an object of one kind (STATEMENT, "Object words"), says nothing of anything else: there the answer is
 -- no.
 -- Assumes nothing.
-use Rattle.std.specs.Prelude.{Bool, true, false}
+use Rattle.std.specs.Prelude.{Bool, false}
 use Rattle.steps.specs.declared.Mv50.{Mv50}
 use Rattle.steps.specs.declared.Mv100.{Mv100}
 use Rattle.steps.specs.declared.Ma10.{Ma10}

@@ -1,6 +1,6 @@
 -- A word as a row of fields, the lowest first: what it takes to put a word together (STATEMENT, "Object words").
 -- Assumes nothing.
-use Rattle.std.specs.Prelude.{Bool, true, false, ◌&&◌, List, [], ◌∷◌, ℕ, ◌+◌, ◌-◌, ◌*◌, ◌^◌, ltb}
+use Rattle.std.specs.Prelude.{Bool, true, ◌&&◌, List, [], ◌∷◌, ℕ, ◌+◌, ◌-◌, ◌*◌, ◌^◌, ltb}
 
 -- a number, and the bits hi..lo that it goes to
 pub data Field : Type 0 where

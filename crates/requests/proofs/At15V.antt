@@ -16,12 +16,10 @@ use Rattle.verdicts.specs.Refusals.{verdict, success}
 use Rattle.steps.specs.Units.{mv25, ma10, ma50}
 use Rattle.steps.specs.declared.Ma10.{Ma10}
 use Rattle.objects.specs.declared.Object.TheVariants.{Avs}
-use Rattle.objects.specs.declared.Decoded.TheVariants.{Known}
 use Rattle.lists.specs.declared.Words.{Words}
-use Rattle.lists.specs.Shape.{shape_of}
 use Rattle.requests.specs.Taking.{position_of, mismatch_of, avs_volts, current_in}
 use Rattle.requests.specs.Limits.{avs_top, avs_limit}
-use Rattle.requests.specs.Answering.{named_by, answer_of}
+use Rattle.requests.specs.Answering.{answer_of}
 use Rattle.requests.specs.Judging.{judged_of}
 use Rattle.requests.proofs.Limits.{over, allowed, no_maximum}
 use Rattle.requests.proofs.AvsLimits.{ends_at_15_V, ends_at_20_V, limit_below, limit_above, limit_at_lem}

@@ -3,18 +3,17 @@
 use mathlib.Core.Path.{◌≡◌, refl, sym, ap, ◌∙◌, subst}
 use mathlib.Core.Bool.{Bool, true, false}
 use mathlib.Core.List.{List, []}
-use Prim.Native.Nat.{ℕ, ◌-◌, ◌<◌, ◌≤◌, max}
+use Prim.Native.Nat.{ℕ, ◌-◌, ◌≤◌, max}
 use native.Mathlib.Omega.{arith}
 use lib.Dec.{ltb}
 use borrow.Author.Tests.{ltb-true, ltb-false}
 use Rattle.verdicts.specs.declared.Verdict.{Verdict}
 use Rattle.verdicts.proofs.Bools.{either_false}
-use Rattle.verdicts.specs.Refusals.{first_of, verdict, success}
+use Rattle.verdicts.specs.Refusals.{first_of, verdict}
 use Rattle.steps.specs.Units.{mv20, ma50}
 use Rattle.objects.specs.declared.Side.TheVariants.{Source}
 use Rattle.objects.specs.declared.Object.{Object}
 use Rattle.objects.specs.declared.Object.TheVariants.{Fixed, Battery, Variable, Pps, Avs}
-use Rattle.objects.specs.declared.Decoded.{Decoded}
 use Rattle.objects.specs.declared.Decoded.TheVariants.{Known}
 use Rattle.lists.specs.declared.Words.{Words}
 use Rattle.lists.specs.Shape.{bad_count, shape_of}
@@ -23,7 +22,7 @@ use Rattle.lists.proofs.Shapes.{count_high, none_of}
 use Rattle.lists.proofs.Sevens.{at_filled}
 use Rattle.requests.specs.declared.Asked.{Asked}
 use Rattle.requests.specs.Limits.{avs_limit}
-use Rattle.requests.specs.Taking.{position_of, mismatch_of, pps_volts, taken_apart}
+use Rattle.requests.specs.Taking.{position_of, pps_volts, taken_apart}
 use Rattle.requests.specs.Judging.{judged_of}
 use Rattle.requests.specs.Answering.{bad_position, named_by, answer_of}
 use Rattle.requests.proofs.AvsLimits.{limit_below, limit_above, limit_at_lem}

@@ -15,7 +15,7 @@ use Rattle.lists.specs.declared.Words.{Words}
 use Rattle.lists.specs.Shape.{bad_count}
 use Rattle.lists.specs.Reading.{object_of}
 use Rattle.lists.specs.Unread.{AgreeWords}
-use Rattle.lists.proofs.Unread.{counting, recounted, same_taken}
+use Rattle.lists.proofs.Unread.{recounted, same_taken}
 use Rattle.requests.specs.Taking.{position_of, taken_apart}
 use Rattle.requests.specs.Answering.{bad_position}
 use Rattle.summaries.specs.declared.Summary.{Summary}

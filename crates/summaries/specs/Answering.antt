@@ -1,7 +1,7 @@
 -- The answer to a decoded request from a summary (STATEMENT, "Answering from a summary"; numbers and order from "Refusal numbers"), in
 -- millivolts and milliamperes.
 -- Assumes nothing.
-use Rattle.std.specs.Prelude.{Bool, true, false, not, ◌&&◌, List, [], ◌∷◌, ℕ, ◌-◌, ◌%◌, leb, ltb, eqb, get_or}
+use Rattle.std.specs.Prelude.{Bool, true, not, ◌&&◌, List, [], ◌∷◌, ℕ, ◌-◌, ◌%◌, leb, ltb, eqb, get_or}
 use Rattle.verdicts.specs.declared.Verdict.{Verdict}
 use Rattle.verdicts.specs.Refusals.{Refusal, refusal, verdict_of}
 use Rattle.steps.specs.Ranges.{within}

@@ -1,10 +1,5 @@
 -- `board::sharing::arin_advertise` meets its contract: what `ports` decides by value is what is answered and written.
 -- Assumes nothing.
-use mathlib.Core.Path.{refl}
-use mathlib.Core.List.{List}
-use Rattle.ports.specs.declared.Row.{Row}
-use Rattle.ports.specs.declared.Standing.{Standing}
-use Rattle.ports.specs.declared.Change.{Change}
 use Rattle.ports.specs.Deciding.{advertise_change, offer_of}
 use Rattle.ports.specs.Lending.{advertise_answer, advertise_rows}
 use Rattle.ports.proofs.Said.{advertise_said}

@@ -1,10 +1,5 @@
 -- `board::sharing::arin_attach` meets its contract: what `ports` decides by value is what is answered and written.
 -- Assumes nothing.
-use mathlib.Core.Path.{refl}
-use mathlib.Core.List.{List}
-use Rattle.ports.specs.declared.Row.{Row}
-use Rattle.ports.specs.declared.Standing.{Standing}
-use Rattle.ports.specs.declared.Change.{Change}
 use Rattle.ports.specs.Deciding.{attach_change, offer_of}
 use Rattle.ports.specs.Lending.{attach_answer, attach_rows}
 use Rattle.ports.proofs.Said.{attach_said}

@@ -1,9 +1,6 @@
 -- `board::sharing::arin_detach` meets its contract: what `ports` decides by value is what is answered and written.
 -- Assumes nothing.
 use mathlib.Core.Path.{refl}
-use mathlib.Core.List.{List}
-use Rattle.ports.specs.declared.Row.{Row}
-use Rattle.ports.specs.declared.Standing.{Standing}
 use Rattle.ports.specs.declared.Change.{Change}
 use Rattle.ports.specs.Deciding.{detach_change}
 use Rattle.ports.specs.Lending.{detach_answer, detach_rows}

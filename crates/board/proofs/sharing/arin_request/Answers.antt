@@ -1,9 +1,6 @@
 -- `board::sharing::arin_request` meets its contract: what `ports` decides by value is what is answered and written.
 -- Assumes nothing.
 use mathlib.Core.Path.{refl}
-use mathlib.Core.List.{List}
-use Rattle.ports.specs.declared.Row.{Row}
-use Rattle.ports.specs.declared.Standing.{Standing}
 use Rattle.ports.specs.declared.Change.{Change}
 use Rattle.ports.specs.Deciding.{request_change}
 use Rattle.ports.specs.Lending.{request_answer, request_rows}

@@ -1,6 +1,6 @@
 -- `board::sharing::arin_set_up` meets its contract: all rows are emptied, or none.
 -- Assumes nothing.
-use mathlib.Core.Path.{◌≡◌, sym, ap, subst, ◌∙◌}
+use mathlib.Core.Path.{sym, ap, subst, ◌∙◌}
 use mathlib.Core.Bool.{Bool, true, false, cond}
 use mathlib.Core.List.{List}
 use Prim.Native.Nat.{ℕ, ◌≤◌}
@@ -10,7 +10,6 @@ use lib.ListN.{length}
 use Rattle.ports.specs.declared.Row.{Row}
 use Rattle.ports.specs.declared.Standing.{Standing}
 use Rattle.ports.specs.Standing.{standing, standing_of, all_or_none}
-use Rattle.ports.specs.Lending.{set_up_answer, set_up_rows}
 use Rattle.ports.proofs.Standings.{count_kept}
 use Rattle.ports.proofs.Said.{set_up_said}
 use Rattle.board.specs.Rows.{emptied_to}

@@ -1,6 +1,5 @@
 -- `flat::flatten` meets its contract: in each arm the object is the constructor at the fields bound.
 -- Assumes nothing.
-use borrow.Author.Rules.{rules}
 use mathlib.Core.Path.{ap, sym}
 use Rattle.flat.specs.Flat.{flat_of}
 use Rattle.flat.proofs.flattening.flatten.Goals as goal

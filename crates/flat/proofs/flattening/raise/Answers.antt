@@ -1,11 +1,11 @@
 -- `flat::raise` meets its contract: each arm of the `match` says which case of `raisedOf` holds.
 -- Assumes nothing.
-use mathlib.Core.Path.{◌≡◌, refl, ap, sym, ◌∙◌}
+use mathlib.Core.Path.{◌≡◌, ap, sym, ◌∙◌}
 use Rattle.flat.specs.declared.FlatObject.{FlatObject}
 use Rattle.flat.specs.declared.Raised.{Raised}
 use Rattle.flat.specs.Flat.{raised_of, raised_says, flat_says}
 use Rattle.flat.proofs.Saying.{flat_says_lem}
-use Rattle.flat.proofs.BothWays.{raised_by_lem, raised_unknown}
+use Rattle.flat.proofs.BothWays.{raised_by_lem}
 use Rattle.flat.proofs.flattening.raise.Goals as goal
 
 -- an answer that is the definition's says what is to be said

@@ -1,7 +1,6 @@
 -- `flat::flattening::raise_for` meets its contract: each side has its own way.
 -- Assumes nothing.
-use borrow.Author.Rules.{rules}
-use mathlib.Core.Path.{◌≡◌, ap, sym, ◌∙◌}
+use mathlib.Core.Path.{◌∙◌}
 use Rattle.flat.proofs.Saying.{flat_says_lem}
 use Rattle.flat.proofs.flattening.raise_for.Goals as goal
 

@@ -1,6 +1,5 @@
 -- `flat::flattening::raise_sink` meets its contract: AVS is no kind of a sink, and the others are raised without what no sink has.
 -- Assumes nothing.
-use borrow.Author.Rules.{rules}
 use mathlib.Core.Path.{◌≡◌, ap, sym, ◌∙◌}
 use Rattle.flat.specs.Flat.{raised_says, sink_raised}
 use Rattle.flat.proofs.Saying.{raised_is}

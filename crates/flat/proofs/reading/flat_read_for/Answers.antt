@@ -1,6 +1,5 @@
 -- `flat::flat_read_for` meets its contract: the objects of the words that there are to read, flattened.
 -- Assumes nothing.
-use borrow.Author.Rules.{rules}
 use mathlib.Core.Path.{ap, sym, ◌∙◌, subst}
 use Prim.Native.Nat.{◌≤◌}
 use Rattle.verdicts.specs.declared.Verdict.{Verdict}

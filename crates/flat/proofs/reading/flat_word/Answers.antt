@@ -1,7 +1,6 @@
 -- `flat::reading::flat_word` meets its contract: a word of no kind counts as an empty place.
 -- Assumes nothing.
-use borrow.Author.Rules.{rules}
-use mathlib.Core.Path.{◌≡◌, ap, sym, ◌∙◌}
+use mathlib.Core.Path.{ap, sym, ◌∙◌}
 use Rattle.objects.specs.declared.Decoded.{Decoded}
 use Rattle.objects.proofs.Saying.{decoded_is}
 use Rattle.lists.specs.Reading.{object_of}

@@ -1,17 +1,10 @@
 -- `flat::reading::flatten_words` meets its contract: the invariant is that the places passed are filled.
 -- Assumes nothing.
-use borrow.Author.Rules.{rules}
-use mathlib.Core.Path.{◌≡◌, ap, ap₂, ◌∙◌}
-use mathlib.Core.List.{List}
-use Prim.Native.Nat.{ℕ, ◌-◌, ◌≤◌, ◌<◌}
-use native.Mathlib.Omega.{arith}
-use lib.ListN.{set}
+use mathlib.Core.Path.{◌≡◌}
+use Prim.Native.Nat.{◌-◌, ◌≤◌}
 use Rattle.lists.specs.Seven.{seven_to}
-use Rattle.lists.proofs.Sevens.{none_filled, one_filled}
-use Rattle.flat.specs.declared.FlatObject.{FlatObject}
-use Rattle.flat.specs.declared.FlatObjects.{FlatObjects}
 use Rattle.flat.specs.Reading.{empty_flat}
-use Rattle.flat.proofs.Readings.{flat_word, words_flattened}
+use Rattle.flat.proofs.Readings.{flat_word}
 use Rattle.flat.proofs.reading.flatten_words.Given as goal
 
 abbrev pub invariant-loop-i : goal.invariant-loop-i

@@ -2,7 +2,6 @@
 -- Assumes nothing.
 use Rattle.flat.proofs.Requests.{no_decoded_request, by_decoded_request}
 use mathlib.Core.Path.{sym, ◌∙◌}
-use borrow.Author.Rules.{rules}
 use Rattle.flat.proofs.requesting.flat_answer_summary.Goals as goal
 
 pub returns-in_default : goal.returns-in_default

@@ -2,7 +2,6 @@
 -- Assumes nothing.
 use Rattle.flat.specs.Requesting.{taken_as, flat_taken_by, flat_taken_of}
 use mathlib.Core.Path.{ap, sym, ◌∙◌}
-use borrow.Author.Rules.{rules}
 use Rattle.flat.proofs.requesting.flat_take_request.Goals as goal
 
 pub returns-in-Refused : goal.returns-in-Refused

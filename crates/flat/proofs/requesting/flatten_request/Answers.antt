@@ -3,7 +3,6 @@
 use Rattle.flat.specs.Requesting.{flat_request_by, flat_request_of}
 use Prim.Native.Nat.{ℕ}
 use mathlib.Core.Path.{ap, sym, ◌∙◌}
-use borrow.Author.Rules.{rules}
 use Rattle.flat.proofs.requesting.flatten_request.Goals as goal
 
 pub returns-in-Fixed : goal.returns-in-Fixed

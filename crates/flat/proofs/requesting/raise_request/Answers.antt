@@ -2,7 +2,6 @@
 -- Assumes nothing.
 use Rattle.flat.proofs.Requests.{raised_as, raised_none}
 use mathlib.Core.Path.{sym, ◌∙◌}
-use borrow.Author.Rules.{rules}
 use Rattle.flat.proofs.requesting.raise_request.Goals as goal
 
 pub returns-in-0 : goal.returns-in-0

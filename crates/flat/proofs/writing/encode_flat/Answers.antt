@@ -1,6 +1,5 @@
 -- `flat::writing::encode_flat` meets its contract: an object of a kind has its word, any other that of 1111b.
 -- Assumes nothing.
-use borrow.Author.Rules.{rules}
 use mathlib.Core.Path.{ap, sym, ◌∙◌}
 use Prim.Native.Nat.{ℕ}
 use Rattle.objects.specs.Encode.{encoded_says}

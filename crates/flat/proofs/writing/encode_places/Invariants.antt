@@ -1,14 +1,10 @@
 -- `flat::writing::encode_places` meets its contract: the invariant is that no object passed is too wide, and the words so far are made.
 -- Assumes nothing.
-use borrow.Author.Rules.{rules}
-use mathlib.Core.Path.{◌≡◌, sym, ◌∙◌}
+use mathlib.Core.Path.{◌≡◌}
 use mathlib.Core.Bool.{false}
-use Prim.Native.Nat.{ℕ, ◌-◌, ◌≤◌}
-use native.Mathlib.Omega.{arith}
-use Rattle.objects.proofs.Saying.{encoded_one}
+use Prim.Native.Nat.{◌-◌, ◌≤◌}
 use Rattle.lists.specs.Shape.{bad_count}
-use Rattle.lists.proofs.Shapes.{count_high}
-use Rattle.lists.proofs.Writings.{not_made, MadeTo, none_made, one_made, one_wide, all_made}
+use Rattle.lists.proofs.Writings.{MadeTo}
 use Rattle.flat.specs.Writing.{encoded_flat_at}
 use Rattle.flat.proofs.writing.encode_places.Given as goal
 

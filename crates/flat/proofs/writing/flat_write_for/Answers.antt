@@ -1,6 +1,5 @@
 -- `flat::flat_write_for` meets its contract: the words made are finished by their shape.
 -- Assumes nothing.
-use borrow.Author.Rules.{rules}
 use mathlib.Core.Path.{ap, ◌∙◌}
 use Rattle.lists.specs.Writing.{finished_of}
 use Rattle.lists.proofs.Writings.{made_finished}

@@ -6,7 +6,6 @@ use Rattle.objects.specs.declared.Object.{Object}
 use Rattle.lists.specs.ObjectRules.{rank_of}
 use Rattle.lists.specs.Judging.{Follows}
 use Rattle.lists.proofs.Orders.{by_voltage, rank_in, higher, lower, level}
-use borrow.Author.Rules.{rules}
 use Rattle.lists.proofs.object_rules.may_follow.Goals as goal
 use Rattle.lists.proofs.object_rules.may_follow.Goals.{After-standing_of-after, Else-after-before}
 

@@ -1,15 +1,13 @@
 -- `lists::object_rules::out_of_bounds` meets its contract: a test on figures is the test on millivolts.
 -- Assumes nothing.
-use mathlib.Core.Path.{◌≡◌, refl, ap, sym, ◌∙◌}
+use mathlib.Core.Path.{sym, ◌∙◌}
 use Prim.Native.Nat.{◌*◌}
 use lib.Dec.{leb}
-use mathlib.Core.Bool.{Bool, true, false, not, ◌&&◌}
 use native.Mathlib.Omega.{arith}
 use borrow.Author.Tests.{lt-ltb, le-ltb}
 use Rattle.steps.proofs.StepTests.{past}
 use Rattle.verdicts.proofs.Bools.{not_first, not_second}
 use Rattle.lists.specs.ObjectRules.{out_of_bounds}
-use borrow.Author.Rules.{rules}
 use Rattle.lists.proofs.object_rules.out_of_bounds.Goals as goal
 
 pub returns-then-max-gt420 : goal.returns-then-max-gt420

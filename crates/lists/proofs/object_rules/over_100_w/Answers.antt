@@ -1,14 +1,13 @@
 -- `lists::object_rules::over_100_w` meets its contract: half a milliwatt is 500 microwatts, and 250 mW are 250,000.
 -- Assumes nothing.
-use mathlib.Core.Path.{◌≡◌, refl, ap, sym, ◌∙◌}
+use mathlib.Core.Path.{◌≡◌, ap, sym, ◌∙◌}
 use mathlib.Core.Bool.{not}
 use Prim.Native.Nat.{ℕ, ◌*◌}
 use native.Mathlib.Nat.{mul_assoc}
 use native.Mathlib.Omega.{arith}
 use lib.Dec.{ltb, leb}
-use Rattle.steps.proofs.StepTests.{past, product, product_fits}
+use Rattle.steps.proofs.StepTests.{past, product}
 use Rattle.lists.specs.ObjectRules.{over_100_W}
-use borrow.Author.Rules.{rules}
 use Rattle.lists.proofs.object_rules.over_100_w.Goals as goal
 
 watts : (v a : ℕ) → ltb 200000 (v * a) ≡ not (leb (v * 50 * (a * 10)) 100000000)

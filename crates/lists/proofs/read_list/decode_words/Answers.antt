@@ -1,19 +1,15 @@
 -- `lists::read_list::decode_words` meets its contract: the invariant is that the places passed are filled.
 -- Assumes nothing.
 use borrow.Author.Rules.{rules}
-use mathlib.Core.Path.{◌≡◌, refl, ap, ap₂, sym, ◌∙◌}
+use mathlib.Core.Path.{ap, ap₂, sym, ◌∙◌}
 use mathlib.Core.List.{List}
-use mathlib.Core.Logic.{⊎_elim}
-use Prim.Native.Nat.{ℕ, ◌+◌, ◌-◌, ◌≤◌, ◌<◌}
+use Prim.Native.Nat.{◌<◌}
 use native.Mathlib.Omega.{arith}
-use lib.ListN.{get_or, set}
+use lib.ListN.{set}
 use Rattle.objects.specs.declared.Decoded.{Decoded}
-use Rattle.objects.specs.Decode.{decode_of}
 use Rattle.objects.proofs.Saying.{decoded_is}
 use Rattle.lists.specs.declared.Place.{Place}
-use Rattle.lists.specs.declared.Objects.{Objects}
-use Rattle.lists.specs.Seven.{seven_to}
-use Rattle.lists.specs.Reading.{empty_place, object_of, place_of, objects_of}
+use Rattle.lists.specs.Reading.{empty_place, object_of, place_of}
 use Rattle.lists.proofs.Sevens.{none_filled, one_filled, one_blank}
 use Rattle.lists.proofs.read_list.decode_words.Goals as goal
 use Rattle.lists.proofs.read_list.decode_words.Goals.{in-Known, in_default}
@@ -32,7 +28,7 @@ loop-i-preserved c =
     let below : at.i < 7 = omega arith in (
       omega arith,
       elim c.match-d.branch [
-        in-Known w ↦
+        | in-Known w ↦
             w.places-is
             ∙ ap₂ (λ (ps : List Place) (p : Place). set ps at.i p) at.invariant.1
             (sym (ap placed (sym (decoded_is _ _ c.decode-d.ensures) ∙ w.in-Known.is)))

@@ -1,6 +1,5 @@
 -- `lists::read` meets its contract: the objects of the words that there are to read.
 -- Assumes nothing.
-use borrow.Author.Rules.{rules}
 use mathlib.Core.Path.{ap, sym, ◌∙◌, subst}
 use Prim.Native.Nat.{◌≤◌}
 use Rattle.verdicts.specs.declared.Verdict.{Verdict}

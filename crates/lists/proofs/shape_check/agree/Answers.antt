@@ -1,11 +1,9 @@
 -- `lists::shape_check::agree` meets its contract: of a source the AVS word decides, of a sink nothing is asked.
 -- Assumes nothing.
-use borrow.Author.Rules.{rules}
-use mathlib.Core.Path.{◌≡◌, ap, sym, ◌∙◌, subst}
+use mathlib.Core.Path.{ap, sym}
 use Rattle.verdicts.specs.Refusals.{first_of, verdict_of}
 use Rattle.objects.specs.declared.Side.{Side}
 use Rattle.lists.specs.Shape.{agreement_rows}
-use Rattle.lists.specs.Scanning.{OnlyAvs}
 use Rattle.lists.proofs.shape_check.agree.Goals as goal
 
 pub returns-in-Sink : goal.returns-in-Sink

@@ -1,7 +1,5 @@
 -- `lists::shape_check::avs_differs` meets its contract: of an AVS word the 15 V object is looked for first, then the end of the range.
 -- Assumes nothing.
-use borrow.Author.Rules.{rules}
-use borrow.Author.Tests.{not-true, not-false}
 use mathlib.Core.Path.{◌≡◌, ap, ap₂, sym, ◌∙◌}
 use mathlib.Core.Bool.{true, not}
 use mathlib.Core.List.{List}
@@ -9,7 +7,7 @@ use Prim.Native.Nat.{ℕ, ◌/◌, ◌^◌}
 use lib.Bits.{bit_and}
 use Rattle.objects.specs.Asking.{of_object}
 use Rattle.objects.specs.Decode.{is_kind, decode_of}
-use Rattle.objects.proofs.Taking.{taken, taken_low, taken_fits, low_fits}
+use Rattle.objects.proofs.Taking.{taken, taken_low}
 use Rattle.lists.specs.Shape.{avs_matches, avs_differs}
 use Rattle.lists.proofs.Telling.{no_avs, an_avs}
 use Rattle.lists.proofs.Matching.{no_15_V, ends_at_15_V, by_20_V}

@@ -1,12 +1,9 @@
 -- `lists::shape_check::has_fixed` meets its contract: the invariant is that no word passed is such an object.
 -- Assumes nothing.
 use borrow.Author.Rules.{rules}
-use mathlib.Core.Path.{◌≡◌, refl, ap, sym, ◌∙◌}
-use mathlib.Core.Bool.{Bool, true, false}
-use Prim.Native.Nat.{ℕ, ◌-◌, ◌≤◌}
+use mathlib.Core.Path.{sym, ◌∙◌}
 use native.Mathlib.Omega.{arith}
 use Rattle.steps.specs.Units.{mv50}
-use Rattle.lists.specs.Shape.{has_fixed}
 use Rattle.lists.proofs.Finding.{none_had, none_more, found_at}
 use Rattle.lists.proofs.shape_check.has_fixed.Goals as goal
 

@@ -1,13 +1,10 @@
 -- `lists::shape_check::has_fixed` meets its contract: the invariant is that no word passed is such an object.
 -- Assumes nothing.
-use borrow.Author.Rules.{rules}
-use mathlib.Core.Path.{◌≡◌, refl, ap, sym, ◌∙◌}
-use mathlib.Core.Bool.{Bool, true, false}
-use Prim.Native.Nat.{ℕ, ◌-◌, ◌≤◌}
-use native.Mathlib.Omega.{arith}
+use mathlib.Core.Path.{◌≡◌}
+use mathlib.Core.Bool.{false}
+use Prim.Native.Nat.{◌-◌, ◌≤◌}
 use Rattle.steps.specs.Units.{mv50}
 use Rattle.lists.specs.Shape.{has_fixed}
-use Rattle.lists.proofs.Finding.{none_had, none_more, found_at}
 use Rattle.lists.proofs.shape_check.has_fixed.Given as goal
 
 abbrev pub invariant-loop-i : goal.invariant-loop-i

@@ -1,7 +1,5 @@
 -- `lists::shape_check::is_fixed_5_v` meets its contract: 5 V is 100 steps of 50 mV.
 -- Assumes nothing.
-use borrow.Author.Rules.{rules}
-use borrow.Author.Tests.{not-true, not-false}
 use mathlib.Core.Path.{ap, sym, ◌∙◌}
 use Prim.Native.Nat.{ℕ}
 use native.Mathlib.Omega.{arith}

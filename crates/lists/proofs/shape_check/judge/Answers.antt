@@ -1,16 +1,13 @@
 -- `lists::shape_check::judge` meets its contract: each return cites the law of its case.
 -- Assumes nothing.
-use mathlib.Core.Path.{◌≡◌, refl, ap, sym, ◌∙◌}
-use mathlib.Core.Bool.{Bool, true, false}
-use Prim.Native.Nat.{ℕ}
-use Rattle.objects.specs.declared.Object.{Object}
-use Rattle.objects.specs.declared.Decoded.TheVariants.{Known, NotAllowed}
+use mathlib.Core.Path.{◌≡◌, sym, ◌∙◌}
+use mathlib.Core.Bool.{false}
+use Rattle.objects.specs.declared.Decoded.TheVariants.{Known}
 use Rattle.objects.specs.Decode.{decode_for}
 use Rattle.objects.specs.Reserved.{reserved_set}
 use Rattle.objects.proofs.Saying.{decoded_for}
 use Rattle.lists.specs.ObjectRules.{out_of_bounds, over_100_W}
 use Rattle.lists.proofs.Judging.{not_known, reserved, bound, power, order, fine, in_order, out_of_order_lem, first_in_order}
-use borrow.Author.Rules.{rules}
 use Rattle.lists.proofs.shape_check.judge.Goals as goal
 use Rattle.lists.proofs.shape_check.judge.Goals.{After-reserved_bit_set, Else-out_of_bounds, Else-over_100_w, Else-reserved_bit_set}
 

@@ -1,6 +1,5 @@
 -- `lists::shape_check::judge_avs` meets its contract: no other word is AVS, so the one at the place decides.
 -- Assumes nothing.
-use borrow.Author.Rules.{rules}
 use mathlib.Core.Path.{sym, ◌∙◌}
 use Rattle.lists.proofs.Scanning.{no_avs_word, avs_word_differs, avs_word_matches}
 use Rattle.lists.proofs.shape_check.judge_avs.Goals as goal

@@ -6,8 +6,7 @@ use Rattle.verdicts.specs.declared.Verdict.{Verdict}
 use Rattle.verdicts.specs.Refusals.{first_of, verdict, verdict_of}
 use Rattle.verdicts.proofs.First.{all_missed, none_applied, refused_so}
 use Rattle.lists.specs.Shape.{bad_count, agreement_rows, shape_for}
-use Rattle.lists.proofs.Shapes.{count_high, miscounted, words_part, misbegun, begun, words_numbered}
-use borrow.Author.Rules.{rules}
+use Rattle.lists.proofs.Shapes.{miscounted, words_part, misbegun, begun, words_numbered}
 use Rattle.lists.proofs.shape_check.judge_list.Goals as goal
 use Rattle.lists.proofs.shape_check.judge_list.Goals.{Else-bad_count, Then-is_fixed_5_v}
 

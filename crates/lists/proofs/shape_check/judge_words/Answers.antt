@@ -3,7 +3,7 @@
 use borrow.Author.Rules.{rules}
 use mathlib.Core.Path.{◌≡◌, refl, ap, sym, ◌∙◌, subst}
 use mathlib.Core.Bool.{cond}
-use Prim.Native.Nat.{ℕ, ◌+◌, ◌-◌, ◌≤◌}
+use Prim.Native.Nat.{ℕ, ◌+◌, ◌-◌}
 use native.Mathlib.Omega.{arith}
 use lib.Dec.{eqb}
 use lib.ListN.{get_or}
@@ -18,7 +18,7 @@ use Rattle.lists.specs.Judging.{standing_of}
 use Rattle.lists.specs.Scanning.{OnlyAvs}
 use Rattle.objects.specs.Decode.{zero_object}
 use Rattle.lists.proofs.Orders.{rank_in}
-use Rattle.lists.proofs.Judging.{Before, refused_word_lem, fine_word_lem, fine_object, fine_standing}
+use Rattle.lists.proofs.Judging.{refused_word_lem, fine_word_lem, fine_object, fine_standing}
 use Rattle.lists.proofs.Scanning.{Alone, none_seen, one_more, refused_number}
 use Rattle.lists.proofs.shape_check.judge_words.Goals as goal
 

@@ -1,17 +1,14 @@
 -- `lists::write_list::encode_places` meets its contract: the invariant is that no object passed is too wide, and the words so far are made.
 -- Assumes nothing.
 use borrow.Author.Rules.{rules}
-use mathlib.Core.Path.{◌≡◌, sym, ◌∙◌}
-use mathlib.Core.Bool.{false}
-use Prim.Native.Nat.{ℕ, ◌-◌, ◌≤◌}
+use mathlib.Core.Path.{sym, ◌∙◌}
 use native.Mathlib.Omega.{arith}
 use lib.ListN.{get_or}
 use Rattle.objects.proofs.Saying.{encoded_is}
-use Rattle.lists.specs.Shape.{bad_count}
 use Rattle.lists.specs.Reading.{empty_place}
 use Rattle.lists.specs.Writing.{encoded_at}
 use Rattle.lists.proofs.Shapes.{count_high}
-use Rattle.lists.proofs.Writings.{not_made, MadeTo, none_made, one_made, one_wide, all_made}
+use Rattle.lists.proofs.Writings.{not_made, none_made, one_made, one_wide, all_made}
 use Rattle.lists.proofs.write_list.encode_places.Goals as goal
 
 pub returns-then-bad_count : goal.returns-then-bad_count

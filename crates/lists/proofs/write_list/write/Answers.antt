@@ -1,6 +1,5 @@
 -- `lists::write` meets its contract: the words made are finished by their shape.
 -- Assumes nothing.
-use borrow.Author.Rules.{rules}
 use mathlib.Core.Path.{ap, ◌∙◌}
 use Rattle.objects.specs.declared.Side.TheVariants.{Source}
 use Rattle.lists.specs.Writing.{finished_of}

@@ -1,6 +1,5 @@
 -- `objects::decode` meets its contract: each arm of the `match` says which case of `decodeOf` holds.
 -- Assumes nothing.
-use borrow.Author.Rules.{rules}
 use mathlib.Core.Path.{◌≡◌, ◌∙◌, sym, ap}
 use Prim.Native.Nat.{ℕ, ◌+◌}
 use native.Mathlib.Omega.{arith}
@@ -11,7 +10,7 @@ use Rattle.objects.specs.declared.Decoded.{Decoded}
 use Rattle.objects.specs.declared.Decoded.TheVariants.{Known}
 use Rattle.objects.proofs.Saying.{word_says_lem}
 use Rattle.objects.proofs.Taking.{taken, bits_lt}
-use Rattle.objects.proofs.Cases.{kind_is, augmented_is, last_two, no_other_kind}
+use Rattle.objects.proofs.Cases.{kind_is, augmented_is, last_two}
 use Rattle.objects.proofs.decoding.decode.Goals as goal
 use Rattle.objects.proofs.decoding.decode.Goals.{In_default}
 

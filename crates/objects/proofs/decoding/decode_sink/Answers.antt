@@ -1,6 +1,5 @@
 -- `objects::decoding::decode_sink` meets its contract: each test leaves the words of one kind.
 -- Assumes nothing.
-use borrow.Author.Rules.{rules}
 use mathlib.Core.Path.{ap, sym, ◌∙◌}
 use native.Mathlib.Omega.{arith}
 use Prim.Native.Nat.{ℕ}

@@ -1,8 +1,6 @@
 -- `objects::decoding::variable` meets its contract: the law `taken` at each bit place.
 -- Assumes nothing.
-use mathlib.Core.Path.{◌≡◌, ◌∙◌, ap, sym}
-use Prim.Native.Nat.{◌/◌, ◌^◌}
-use Rattle.objects.proofs.Taking.{taken, taken_low, taken_fits, low_fits}
+use Rattle.objects.proofs.Taking.{taken, taken_low}
 use Rattle.objects.proofs.decoding.variable.Goals as goal
 
 pub returns : goal.returns

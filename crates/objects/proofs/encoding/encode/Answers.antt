@@ -1,8 +1,7 @@
 -- `objects::encode` meets its contract: in each arm the object is the constructor at the fields bound.
 -- Assumes nothing.
-use borrow.Author.Rules.{rules}
-use mathlib.Core.Path.{◌≡◌, ◌∙◌, ap, sym}
-use Rattle.objects.specs.Encode.{encode_of, encoded_says, object_says}
+use mathlib.Core.Path.{◌∙◌, ap, sym}
+use Rattle.objects.specs.Encode.{encode_of, encoded_says}
 use Rattle.objects.proofs.Saying.{object_says_lem}
 use Rattle.objects.proofs.encoding.encode.Goals as goal
 

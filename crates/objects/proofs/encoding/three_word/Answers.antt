@@ -1,10 +1,9 @@
 -- `objects::encoding::three_word` meets its contract: each test says whether a field fits, and the ors are a sum.
 -- Assumes nothing.
 use borrow.Author.Tests.{le-ltb, lt-ltb}
-use mathlib.Core.Path.{◌≡◌, refl, ◌∙◌, ap}
+use mathlib.Core.Path.{refl, ◌∙◌, ap}
 use mathlib.Core.List.{[], ◌∷◌}
 use native.Mathlib.Omega.{arith}
-use lib.Dec.{lit<}
 use Rattle.objects.specs.Layout.{field}
 use Rattle.objects.specs.Encode.{word_of}
 use Rattle.objects.specs.declared.Encoded.TheVariants.{Word}

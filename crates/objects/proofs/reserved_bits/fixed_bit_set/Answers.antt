@@ -1,7 +1,5 @@
 -- `objects::reserved_bits::fixed_bit_set` meets its contract: each arm looks at the bit places of its side.
 -- Assumes nothing.
-use borrow.Author.Rules.{rules}
-use mathlib.Core.Path.{◌≡◌}
 use Rattle.objects.proofs.Taking.{taken}
 use Rattle.objects.proofs.SetBits.{is_set}
 use Rattle.objects.proofs.reserved_bits.fixed_bit_set.Goals as goal

@@ -1,10 +1,9 @@
 -- `objects::reserved_bits::pps_bit_set` meets its contract: three places that must be clear.
 -- Assumes nothing.
-use borrow.Author.Rules.{rules}
-use mathlib.Core.Path.{◌≡◌, sym, ◌∙◌}
+use mathlib.Core.Path.{sym, ◌∙◌}
 use Rattle.objects.specs.Reserved.{clear, limited_clear}
 use Rattle.objects.proofs.Taking.{taken}
-use Rattle.objects.proofs.SetBits.{is_set, is_clear, is_not_clear, one_set, two_set, last_set}
+use Rattle.objects.proofs.SetBits.{is_set, is_clear, is_not_clear, two_set, last_set}
 use Rattle.objects.proofs.reserved_bits.pps_bit_set.Goals as goal
 
 pub returns-then-w-ne0 : goal.returns-then-w-ne0

@@ -1,7 +1,5 @@
 -- `objects::reserved_bit_set` meets its contract: each arm looks at the bit places of its kind.
 -- Assumes nothing.
-use borrow.Author.Rules.{rules}
-use mathlib.Core.Path.{◌≡◌, refl, ◌∙◌}
 use Rattle.objects.specs.Reserved.{reserved_set}
 use Rattle.objects.proofs.Taking.{taken}
 use Rattle.objects.proofs.SetBits.{is_set}

@@ -14,7 +14,6 @@ use Rattle.lists.specs.Reading.{object_of}
 use Rattle.requests.specs.Taking.{position_of}
 use Rattle.requests.specs.Answering.{named_by}
 use Rattle.requests.proofs.Answers.{position_zero, position_past, position_good, misshapen, misplaced, judged, names_object, named_to_7}
-use borrow.Author.Rules.{rules}
 use Rattle.requests.proofs.answering.answer.Goals as goal
 use Rattle.requests.proofs.answering.answer.Goals.{Else-list-named, Else-named-lt1, Else-shape-ne-SUCCESS}
 

@@ -1,11 +1,9 @@
 -- `requests::judging::judge` meets its contract: the limits of the kind.
 -- Assumes nothing.
-use mathlib.Core.Path.{◌≡◌, ap, sym, ◌∙◌}
+use mathlib.Core.Path.{ap, sym, ◌∙◌}
 use Rattle.objects.specs.declared.Object.{Object}
 use Rattle.requests.specs.Judging.{judged_of}
 use Rattle.requests.proofs.Figures.{fixed_limits, battery_limits, variable_limits}
-use Rattle.requests.proofs.FiveKinds.{no_sixth_kind}
-use borrow.Author.Rules.{rules}
 use Rattle.requests.proofs.judging.judge.Goals as goal
 
 pub returns-in-Fixed : goal.returns-in-Fixed

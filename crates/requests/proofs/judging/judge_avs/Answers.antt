@@ -4,7 +4,6 @@ use mathlib.Core.Path.{ap, sym, ◌∙◌}
 use Rattle.steps.specs.declared.Mv25.{Mv25}
 use Rattle.steps.specs.declared.Ma50.{Ma50}
 use Rattle.requests.proofs.AvsLimits.{avs_not_whole, avs_under, avs_beyond, avs_over, avs_allowed}
-use borrow.Author.Rules.{rules}
 use Rattle.requests.proofs.judging.judge_avs.Goals as goal
 
 pub returns-then-volts-ne0 : goal.returns-then-volts-ne0

@@ -3,7 +3,6 @@
 use mathlib.Core.Path.{sym, ◌∙◌}
 use mathlib.Core.Bool.{and-false}
 use Rattle.verdicts.specs.Refusals.{first_of}
-use borrow.Author.Rules.{rules}
 use Rattle.requests.proofs.judging.judge_figures.Goals as goal
 
 pub returns-then-operating_too_large : goal.returns-then-operating_too_large

@@ -1,7 +1,6 @@
 -- `requests::judging::judge_power` meets its contract: the tests are those of the figures taken.
 -- Assumes nothing.
 use Rattle.requests.specs.Judging.{figures_of}
-use borrow.Author.Rules.{rules}
 use Rattle.requests.proofs.judging.judge_power.Goals as goal
 
 pub returns : goal.returns

@@ -4,7 +4,6 @@ use mathlib.Core.Path.{ap, sym, ◌∙◌}
 use Rattle.steps.specs.declared.Mv20.{Mv20}
 use Rattle.steps.specs.declared.Ma50.{Ma50}
 use Rattle.requests.proofs.PpsLimits.{pps_under, pps_beyond, pps_over, pps_allowed}
-use borrow.Author.Rules.{rules}
 use Rattle.requests.proofs.judging.judge_pps.Goals as goal
 
 pub returns-then-volts-min : goal.returns-then-volts-min

@@ -1,6 +1,6 @@
 -- `requests::taking::current` meets its contract: the law `taken-low` at bits 6..0.
 -- Assumes nothing.
-use Rattle.objects.proofs.Taking.{taken_low, low_fits}
+use Rattle.objects.proofs.Taking.{taken_low}
 use Rattle.requests.proofs.taking.current.Goals as goal
 
 pub returns : goal.returns

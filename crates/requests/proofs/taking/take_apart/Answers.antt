@@ -1,7 +1,6 @@
 -- `requests::take_apart` meets its contract: the three parts side by side.
 -- Assumes nothing.
 use Rattle.requests.specs.Taking.{taken_apart}
-use borrow.Author.Rules.{rules}
 use Rattle.requests.proofs.taking.take_apart.Goals as goal
 
 pub returns : goal.returns

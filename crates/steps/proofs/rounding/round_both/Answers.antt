@@ -1,13 +1,11 @@
 -- `steps::rounding::round_both` meets its contract: the quotient, and one more where something is left, which is no more than the numerator.
 -- Assumes nothing.
-use borrow.Author.Rules.{rules}
 use mathlib.Core.Path.{◌≡◌}
 use Prim.Native.Nat.{ℕ, ◌+◌, ◌/◌, ◌<◌}
-use native.Mathlib.Nat.{div-mul-le_self}
 use native.Mathlib.Omega.{arith}
 use Rattle.steps.specs.declared.Roundings.{Roundings}
 use Rattle.steps.specs.Rounding.{down_of, up_of, both_of}
-use Rattle.steps.proofs.RoundingLaws.{down_none, up_none, down_is, up_nothing_left, up_something_left, up_within}
+use Rattle.steps.proofs.RoundingLaws.{down_none, up_none, down_is, up_nothing_left, up_something_left}
 use Rattle.steps.proofs.rounding.round_both.Goals as goal
 use Rattle.steps.proofs.rounding.round_both.Goals.{Else-divisor-eq0, Else-remainder-eq0}
 

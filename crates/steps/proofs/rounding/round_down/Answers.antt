@@ -1,6 +1,5 @@
 -- `steps::rounding::round_down` meets its contract.
 -- Assumes nothing.
-use borrow.Author.Rules.{rules}
 use mathlib.Core.Path.{sym}
 use native.Mathlib.Omega.{arith}
 use Rattle.steps.proofs.RoundingLaws.{down_none, down_is}

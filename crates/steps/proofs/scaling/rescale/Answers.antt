@@ -1,9 +1,8 @@
 -- `steps::scaling::rescale` meets its contract: a remainder, or a quotient past 16 bits, leaves no figure that stands for the measure.
 -- Assumes nothing.
-use borrow.Author.Rules.{rules}
 use mathlib.Core.Path.{sym}
-use Prim.Native.Nat.{◌*◌, ◌/◌, ◌≤◌}
-use native.Mathlib.Nat.{mul-le-mul, mul-mod_left, div-eq_of_eq-mul_left, div-add-mod'}
+use Prim.Native.Nat.{◌*◌, ◌/◌}
+use native.Mathlib.Nat.{mul-mod_left, div-eq_of_eq-mul_left, div-add-mod'}
 use native.Mathlib.Omega.{arith}
 use Rattle.steps.proofs.ConversionLaws.{exactly, lost}
 use Rattle.steps.proofs.scaling.rescale.Goals as goal

@@ -6,7 +6,6 @@ use Rattle.requests.proofs.Answers.{position_zero, position_past, position_good}
 use Prim.Native.Nat.{ℕ}
 use mathlib.Core.List.{List}
 use mathlib.Core.Path.{ap, sym, ◌∙◌}
-use borrow.Author.Rules.{rules}
 use Rattle.summaries.proofs.answering.answer_summary.Goals as goal
 
 pub returns-then-count-gt7 : goal.returns-then-count-gt7

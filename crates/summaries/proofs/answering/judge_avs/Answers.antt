@@ -3,7 +3,6 @@
 use Rattle.summaries.proofs.Judgings.{avs_not_whole, avs_by_range}
 use mathlib.Core.Bool.{false}
 use mathlib.Core.Path.{sym, ◌∙◌}
-use borrow.Author.Rules.{rules}
 use Rattle.summaries.proofs.answering.judge_avs.Goals as goal
 
 pub returns-then-volts-ne0 : goal.returns-then-volts-ne0

@@ -2,7 +2,6 @@
 -- Assumes nothing.
 use Rattle.summaries.proofs.Judgings.{operating_over, excused, maximum_over, both_within}
 use mathlib.Core.Path.{sym, ◌∙◌}
-use borrow.Author.Rules.{rules}
 use Rattle.summaries.proofs.answering.judge_figures.Goals as goal
 
 pub returns-then-limit-operating : goal.returns-then-limit-operating

@@ -2,7 +2,6 @@
 -- Assumes nothing.
 use Rattle.summaries.proofs.Judgings.{range_under, range_beyond, range_over, range_allowed}
 use mathlib.Core.Path.{sym, ◌∙◌}
-use borrow.Author.Rules.{rules}
 use Rattle.summaries.proofs.answering.judge_range.Goals as goal
 
 pub returns-then-volts-limits : goal.returns-then-volts-limits

@@ -3,7 +3,6 @@
 use Rattle.summaries.proofs.Judgings.{variable_as_fixed, pps_by_range, avs_either_way}
 use Rattle.summaries.specs.Answering.{judged_by}
 use mathlib.Core.Path.{ap, sym, ◌∙◌}
-use borrow.Author.Rules.{rules}
 use Rattle.summaries.proofs.answering.judge_row.Goals as goal
 
 pub returns-in-Variable : goal.returns-in-Variable

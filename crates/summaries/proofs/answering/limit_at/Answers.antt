@@ -4,7 +4,6 @@ use Rattle.requests.proofs.AvsLimits.{limit_below, limit_above, limit_at_lem}
 use native.Mathlib.Omega.{arith}
 use Prim.Native.Nat.{ℕ, ◌<◌, ◌≤◌, max}
 use mathlib.Core.Path.{◌≡◌, sym, ◌∙◌}
-use borrow.Author.Rules.{rules}
 use Rattle.summaries.proofs.answering.limit_at.Goals as goal
 
 larger : (a b : ℕ) → a < b → b ≡ max a b

@@ -1,10 +1,7 @@
 -- `summaries::limits::limits` meets its contract: each kind has its row of the table.
 -- Assumes nothing.
-use native.Mathlib.Omega.{arith}
 use Rattle.summaries.specs.Summaries.{limits_of}
-use Rattle.summaries.specs.Narrow.{Narrow}
-use mathlib.Core.Path.{ap, sym, ◌∙◌, subst}
-use borrow.Author.Rules.{rules}
+use mathlib.Core.Path.{ap, sym, ◌∙◌}
 use Rattle.summaries.proofs.limits.limits.Goals as goal
 
 pub returns-in-Fixed : goal.returns-in-Fixed

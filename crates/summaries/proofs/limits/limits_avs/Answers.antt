@@ -4,7 +4,6 @@ use Rattle.summaries.specs.Summaries.{row}
 use Rattle.requests.proofs.AvsLimits.{ends_at_15_V, ends_at_20_V}
 use Prim.Native.Nat.{ℕ, ◌*◌}
 use mathlib.Core.Path.{ap, ap₂, sym}
-use borrow.Author.Rules.{rules}
 use Rattle.summaries.proofs.limits.limits_avs.Goals as goal
 
 pub returns-then-high-eq0 : goal.returns-then-high-eq0

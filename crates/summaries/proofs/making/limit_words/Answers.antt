@@ -2,15 +2,14 @@
 -- Assumes nothing.
 use borrow.Author.Rules.{rules}
 use Rattle.summaries.proofs.NarrowFigures.{decoded_narrow}
-use Rattle.summaries.specs.Summaries.{no_limits, limits_in, limits_at, rows_to}
+use Rattle.summaries.specs.Summaries.{no_limits, limits_in, limits_at}
 use Rattle.lists.proofs.Sevens.{none_filled, one_filled, one_blank}
 use Rattle.objects.proofs.Saying.{decoded_is}
 use lib.ListN.{set}
 use native.Mathlib.Omega.{arith}
-use Prim.Native.Nat.{ℕ, ◌-◌, ◌≤◌, ◌<◌}
-use mathlib.Core.Logic.{⊎_elim}
+use Prim.Native.Nat.{ℕ, ◌<◌}
 use mathlib.Core.List.{List}
-use mathlib.Core.Path.{◌≡◌, ap, ap₂, sym, ◌∙◌}
+use mathlib.Core.Path.{ap, ap₂, sym, ◌∙◌}
 use Rattle.summaries.proofs.making.limit_words.Goals as goal
 use Rattle.summaries.proofs.making.limit_words.Goals.{in-Known, in_default}
 
@@ -29,7 +28,7 @@ loop-i-preserved c =
     let is = sym (decoded_is _ _ c.decode-d.ensures) in (
       omega arith,
       elim c.match-d.branch [
-        in-Known w ↦
+        | in-Known w ↦
             w.rows-is
             ∙ ap₂ (λ (rs : List (List ℕ)) (r : List ℕ). set rs at.i r) at.invariant.1 (w.limits-row.ensures ∙ sym (ap limits_in (is ∙ w.in-Known.is)))
             ∙ one_filled f no_limits at.i below

@@ -8,10 +8,8 @@ use Rattle.lists.proofs.Shapes.{shaped_count}
 use Rattle.lists.specs.declared.Shaped.{Shaped}
 use Rattle.objects.specs.declared.Side.TheVariants.{Source}
 use Rattle.verdicts.specs.declared.Verdict.{Verdict}
-use Prim.Native.Nat.{ℕ, ◌≤◌}
-use mathlib.Core.List.{List}
-use mathlib.Core.Path.{ap, ap₂, sym, ◌∙◌, subst}
-use borrow.Author.Rules.{rules}
+use Prim.Native.Nat.{◌≤◌}
+use mathlib.Core.Path.{ap, sym, ◌∙◌, subst}
 use Rattle.summaries.proofs.making.summarize.Goals as goal
 
 abbrev summarized : Verdict → Summary → Summarized

@@ -2,7 +2,6 @@
 -- Assumes nothing.
 use Rattle.summaries.specs.Taking.{quick_by, quick_of}
 use mathlib.Core.Path.{ap, sym, ◌∙◌}
-use borrow.Author.Rules.{rules}
 use Rattle.summaries.proofs.taking.sorted.Goals as goal
 
 pub returns-in-Fixed : goal.returns-in-Fixed

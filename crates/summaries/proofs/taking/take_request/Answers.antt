@@ -5,17 +5,14 @@ use Rattle.summaries.specs.Taking.{quick_of, taken_refused}
 use Rattle.requests.proofs.Answers.{position_zero, position_past, position_good}
 use Rattle.requests.specs.Answering.{bad_position, named_by}
 use Rattle.requests.specs.Taking.{position_of}
-use Rattle.lists.proofs.Shapes.{count_high}
 use Rattle.lists.specs.Shape.{bad_count}
 use Rattle.objects.proofs.Saying.{decoded_is}
 use Rattle.objects.specs.Decode.{decode_of}
 use Rattle.objects.specs.declared.Decoded.{Decoded}
 use lib.ListN.{get_or}
-use native.Mathlib.Omega.{arith}
 use Prim.Native.Nat.{ℕ, ◌-◌, ◌<◌, ◌≤◌}
 use mathlib.Core.Bool.{false}
 use mathlib.Core.Path.{◌≡◌, ap, sym, ◌∙◌, subst}
-use borrow.Author.Rules.{rules}
 use Rattle.summaries.proofs.taking.take_request.Goals as goal
 use Rattle.summaries.proofs.taking.take_request.Goals.{Else-bad_count, Else-count-named, Else-named-lt1}
 
