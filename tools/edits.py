@@ -24,7 +24,7 @@ written, and `refused:` then has every function that fails for it.
 rt ci says of a file that it is refused, and keeps no log. So `check` tries each file once more, as rt does and by what rt is made of: on a copy
 of the crate, over what an earlier check kept, with the libraries below as rt builds them. As many run side by side as rt would run, or RT_JOBS.
 What the prover said is kept in ~/.cache/arinduleu/edits (XDG_CACHE_HOME moves it) under the checksum of all that it read, and judged anew
-each time; `check --anew` tries all.
+each time; `check --anew` tries all. `check --goals` also prints the goals and answers that failed, for each wrong answer and function.
 A wrong answer can rename the goals and places of its function, since these have their names from the conditions in the code; then an answer
 of the proof is there for a name that is gone, which shows nothing. Where nothing else fails in that function, the check is made once more with the
 answers under the names that the prover asks for now.
@@ -44,6 +44,8 @@ from pathlib import Path
 
 # Where the proofs of what a function calls come into its own: `close`, or `met` in a proof that is walked by hand.
 CALLED = re.compile(r"`(close|met)`,? (which )?was not admitted")
+# What is taken from the kit's rt.
+KIT = ("rtlib", "share_work", "stamp_of", "work_for", "seeded", "linked", "checked", "need", "in_lanes")
 # A name of the proof that the code does not have any more.
 GONE = re.compile(r"has no (?:field `([^`]+)`|`([^`]+)` that can be named)")
 SHAPE = re.compile(r"is not a definition that can be named")
@@ -64,7 +66,7 @@ class Edit:
         self.crate, self.label = path.parts[-3], path.stem
         self.folder = path.parent.parent
         self.shown = "/".join(path.parts[-3:])
-        self.wrongs, self.errors = [], []
+        self.wrongs, self.errors, self.log = [], [], None
         self.read(path.read_text(encoding="utf-8").split("\n"))
 
     def error(self, text, wrong=None):
@@ -158,6 +160,7 @@ class Refusal:
         waiting = any(WAITS.search(it) and not CALLED.search(it) for it in errors)
         searched = "did not prove" in said or "expected answers" in said
         self.is_own = self.shown or misfit or waiting or bool(self.open) or searched or not self.calls
+        self.failed = list(dict.fromkeys([*self.open, *re.findall(r"^`([^`]+)`: ", "\n".join(errors), re.M)]))
         # Only names that are gone tell against the answer.
         self.by_name = misfit and not self.shown
         # What stands there now, as far as the log has it.
@@ -267,6 +270,9 @@ class Prover:
         sys.modules[loader.name] = self.rt
         loader.exec_module(self.rt)
         # Its first call sets a signal's handler, which only the main thread may.
+        lacking = [it for it in KIT if not hasattr(self.rt, it)]
+        if lacking:
+            sys.exit(f"edits: the rt of this kit has no {', '.join(lacking)}, by which an edit is tried here as rt tries it")
         self.rt.rtlib.guarded()
         self.rt.share_work(False)
         self.crates = {it.name: it for it in self.rt.rtlib.crates_below(str(root))}
@@ -382,10 +388,10 @@ def main(words):
     if words and words[0] in ("-h", "--help"):
         print(__doc__.strip())
         return 0
-    anew = "--anew" in words
-    words = [word for word in words if word != "--anew"]
+    flags, words = {word for word in words if word.startswith("--")}, [word for word in words if not word.startswith("--")]
     is_check = words[:1] == ["check"]
-    if not words or len(words) > 2 and not is_check or words[0] not in ("check", "forms", "list") or anew and not is_check:
+    known = {"--anew", "--goals"} if is_check else set()
+    if not words or len(words) > 2 and not is_check or words[0] not in ("check", "forms", "list") or flags - known:
         print("edits: expected check, forms or list (--help tells)", file=sys.stderr)
         return 2
     root = Path(words[1] if len(words) > 1 else Path(__file__).parent.parent).resolve()
@@ -397,11 +403,17 @@ def main(words):
             return 2
     edits = [edit for edit, name in zip(edits, names) if not words[2:] or name in words[2:]]
     if is_check:
-        prover, good = Prover(root, anew), [edit for edit in edits if not edit.errors]
+        prover, good = Prover(root, "--anew" in flags), [edit for edit in edits if not edit.errors]
         prover.try_all(good)
         for edit in good:
             if not edit.errors:
                 compare(edit, edit.log)
+            if "--goals" in flags and edit.log:
+                own, _ = refused_in(edit.log, edit.crate)
+                for wrong in edit.wrongs:
+                    for function in wrong.refused:
+                        failed = own[function].failed if function in own else []
+                        print(f"{edit.crate}/{edit.label}: {wrong.name}: {function}: {', '.join(failed)}")
     errors = [error for edit in edits for error in edit.errors]
     if not edits:
         errors = [f"no crates/*/must-fail/*.edit in {root}"]

@@ -2,15 +2,23 @@
 # The tests of the Rust package from outside: made by cargo, built where nothing else is, and used by the program of the README.
 # The last line is `rust: N passed, 0 failed, K skipped`; the one before it says which parts were skipped, and why.
 set -euo pipefail
+here=$PWD
 cd "$(dirname "$0")/.."
 who=rust
 . tools/skipping.sh
 
+to=
 case "${1:-}" in
   "") ;;
+  --to)
+    to=$(cd "$here" && [ $# = 2 ] && [ -n "$2" ] && cd "$2" 2> /dev/null && pwd) || {
+      echo "$who: --to wants a folder that is there, and nothing more (tools/rust_package.sh --help tells)" >&2
+      exit 2
+    }
+    ;;
   -h | --help)
     cat << 'END'
-usage: tools/rust_package.sh
+usage: tools/rust_package.sh [--to FOLDER]
 
 Copies rust/ with the proved source inside, makes the package of that with
 `cargo package`, which builds it once, unpacks it in an empty folder, and builds
@@ -20,6 +28,8 @@ warning. That a public function without a comment does not build, and that an
 answer which is ignored is warned of, is tried too.
 Nothing is written outside a temporary folder. What this machine has no tools
 for is skipped, and the line before the last says so.
+With --to the package alone is made, and put into that folder: a .crate that
+carries the proved source and builds by itself.
 END
     exit 0
     ;;
@@ -117,6 +127,13 @@ END
 }
 
 why=$(lacking cargo cc tar)
+if [ -n "$to" ]; then
+  [ -z "$why" ] || fail "the package cannot be made here: $why"
+  make_package
+  cp "$CARGO_TARGET_DIR"/package/arinduleu-*.crate "$to"
+  ls "$to"/arinduleu-*.crate
+  exit 0
+fi
 if [ -z "$why" ]; then
   make_package
   use_package
