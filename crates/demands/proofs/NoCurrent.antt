@@ -1,4 +1,4 @@
--- The request for 5 V at no current (`noCurrent`): every list allows it and every port can hold it. Its figure is 15, and every attached port
+-- The request for 5 V at no current (`no_current`): every list allows it and every port can hold it. Its figure is 15, and every attached port
 -- holds that already.
 -- Assumes nothing.
 use mathlib.Core.Path.{◌≡◌, refl, ap, ◌∙◌}

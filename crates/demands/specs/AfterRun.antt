@@ -1,6 +1,6 @@
 -- Demand 3: after every run, what the ports hold never passes the capacity, the next list of a port is the rule list for what the others leave,
 -- and a request that the port's list allows is refused, with 36, exactly when the others hold the power it needs. All of it is said of the
--- figures that calls and answers alone give (Figures), and of any next call that its contract allows. `demand-3` in proofs/Demand3.antt proves
+-- figures that calls and answers alone give (Figures), and of any next call that its contract allows. `demand_3` in proofs/Demand3.antt proves
 -- `Demand3`, the record `AfterRun` for every run (docs/STATEMENT.md, "Ports that share").
 -- Ports count from 1 and what is looked up counts from 0, as in Figures: `h (port - 1)` is what is known of a port.
 -- Assumes nothing.

@@ -1,7 +1,7 @@
 -- The 15.0 V theorem: where the two ranges of an AVS object meet, the larger of its two currents limits. For every list whose shape passes
 -- and every AVS object in it, a request at exactly 15.0 V is accepted exactly when its current is at most the larger of the two, and with the
 -- second current zero at most the first; under 15.0 V it is held to the first current, over it to the second. Each claim is over the contract
--- of `answer` and is proved by the theorem of its name in small letters (`exactly-15-V` is `Exactly15V`) in proofs/At15V.antt
+-- of `answer` and is proved by the theorem of its name in small letters (`exactly_15_V` is `Exactly15V`) in proofs/At15V.antt
 -- (docs/STATEMENT.md, "Answering a request").
 -- `AsksAvs l w low high` (requests, specs/At15V) is a request to an AVS object of the list l with these two currents. The position in a request
 -- word counts from 1: 1 names the first word of the list.

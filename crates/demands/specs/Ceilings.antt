@@ -1,5 +1,5 @@
 -- The design rating of a sink in milliwatts (docs/STATEMENT.md, "The design rating"): a list that has its shape gets 43 exactly when some operating
--- figure takes more power than the rating, at the voltage that the page divides by. `keeps-to-rating` and `arin-keeps-to-rating` in
+-- figure takes more power than the rating, at the voltage that the page divides by. `keeps_to_rating` and `arin_keeps_to_rating` in
 -- proofs/Ceilings.antt prove the two claims. Millivolts times milliamperes are microwatts, a thousandth of a milliwatt; the figures are those of the
 -- objects in their own steps, so the greatest that passes is the quotient rounded down to the step. Objects are looked up from 0 on.
 -- Assumes nothing.

@@ -1,6 +1,6 @@
 -- Demand 1, refusals, for the decisions of `ports`, by value: number n with its place is given exactly when refusal n applies there and none
--- before it in the order does. A refusal names no row to write, and gives no list and no power. `attach-decides` proves `AttachDecidesFirst` and
--- so on, `offer-refusals` proves `OfferRefusals` and so on, in proofs/DecidingRefusals.antt.
+-- before it in the order does. A refusal names no row to write, and gives no list and no power. `attach_decides` proves `AttachDecidesFirst` and
+-- so on, `offer_refusals_lem` proves `OfferRefusals` and so on, in proofs/DecidingRefusals.antt.
 -- The tables are in crates/ports/specs/Standing.antt and Deciding.antt; that of a call begins with what was refused before.
 -- Assumes nothing.
 use Rattle.std.specs.Prelude.{◌≡◌, Bool, List, ◌∷◌, ℕ}

@@ -1,6 +1,6 @@
 -- After every run, what the next call is due: by what is known from calls and answers alone it is accepted exactly where it is to be, and then
 -- it has the answer that it is due. A row that stays as it was tells that its port is as it was. Each claim follows from demand 3, and is proved by
--- the theorem of its name in small letters (`due-answer` is `DueAnswer`) in proofs/DueAnswers.antt.
+-- the theorem of its name in small letters (`due_answer` is `DueAnswer`) in proofs/DueAnswers.antt.
 -- Ports count from 1 and what is looked up counts from 0, as in Figures.
 -- Assumes nothing.
 use Rattle.std.specs.Prelude.{◌≡◌, false, List, ◌∷◌, ◌↔◌, ℕ, ◌-◌, ◌≤◌, ◌<◌, eqb, length}

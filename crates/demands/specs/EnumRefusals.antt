@@ -46,7 +46,7 @@ pub record Converts (figure from to : ℕ) (said : Bool × ℕ) : Type 0 where
   pub given : said.0 ≡ false → (said.1 * to ≡ figure * from) × (said.1 < 65536)
   pub empty : said.0 ≡ true → said.1 ≡ 0
 
--- for each of the conversions, whatever its contract allows; the theorem of one is `mv20-to-mv25-refuses` and so on
+-- for each of the conversions, whatever its contract allows; the theorem of one is `mv20_to_mv25_refuses` and so on
 pub record Conversions : Type 0 where
   pub mv20_to_mv25 : (v : Mv20) (r : InMv25) → Mv20ToMv25Answers v r → Converts v.0 20 25 (mv25_says r)
   pub mv20_to_mv50 : (v : Mv20) (r : InMv50) → Mv20ToMv50Answers v r → Converts v.0 20 50 (mv50_says r)

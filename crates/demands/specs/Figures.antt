@@ -3,7 +3,7 @@
 -- caller lent to set-up, all else stands in calls and answers. Nothing is claimed here: AfterRun says what holds of these figures.
 -- Ports count from 1, as the calls count them, and so do the places of refusals and the positions in request words. What is looked up in a list
 -- counts from 0. So the port named `port` stands at `port - 1`: its row is `get_or start (port - 1) no_row`, and what is known of it `h (port - 1)`.
--- `◌-◌` stops at zero, so port 0 would look at 0 too; what is said of a port is therefore said from 1 on (`from-1`), and a call with port 0 is
+-- `◌-◌` stops at zero, so port 0 would look at 0 too; what is said of a port is therefore said from 1 on (`from_1`), and a call with port 0 is
 -- refused and teaches nothing.
 -- Assumes nothing.
 use Rattle.std.specs.Prelude.{◌≡◌, true, false, cond, List, [], ◌∷◌, ℕ, ◌-◌, ◌≤◌, min, eqb, length, get_or}

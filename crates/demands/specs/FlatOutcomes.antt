@@ -1,6 +1,6 @@
 -- No second outcome, for the calls over flat objects and the calls on lists under C names: for every input the contract allows one answer only.
 -- `NoSecondFlatOutcome` has a line for each of them, by its name or short for it. Each line is proved by the theorem of its name,
--- `flatten-settles` for `flatten`, and all together by `no-second-flat-outcome`, in proofs/FlatOutcomes.antt (docs/STATEMENT.md, "What the
+-- `flatten_settles` for `flatten`, and all together by `no_second_flat_outcome`, in proofs/FlatOutcomes.antt (docs/STATEMENT.md, "What the
 -- contracts settle").
 -- Assumes nothing.
 use Rattle.objects.specs.declared.Side.{Side}

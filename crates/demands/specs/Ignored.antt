@@ -1,7 +1,7 @@
 -- A request is judged without its reserved bits (T-01; docs/STATEMENT.md, "Answering a request": "Two requests to the same object that differ
 -- in no other bit get the same answer on the same list; asked of the same port of the same rows they get the same answer and leave the same rows.").
 -- Each claim is over the contract of a call, for every input, and is proved by the theorem of its name in small letters in proofs/Ignored.antt.
--- `AgreeOutside places w v` (requests, specs/Ignoring): the words w and v have the same bit at each of the 32 places but these. `ignoredBy o` are
+-- `AgreeOutside places w v` (requests, specs/Ignoring): the words w and v have the same bit at each of the 32 places but these. `ignored_by o` are
 -- the places that are ignored where the object o is asked; `SameOn l w v`: the words agree but for what is ignored on the list l, by the object
 -- that the position names there, and where it names none all but the position.
 -- Assumes nothing.

@@ -1,5 +1,5 @@
 -- One reading of a kind: what `is_kind` tells of a word, for a caller that needs no object, agrees with what `decode` makes of the word. This
--- holds for every word and every number. `is-kind-agrees` and `is-kind-not-allowed` in proofs/KindsAgree.antt prove the two claims
+-- holds for every word and every number. `is_kind_agrees` and `is_kind_not_allowed` in proofs/KindsAgree.antt prove the two claims
 -- (docs/STATEMENT.md, "Object words").
 -- Assumes nothing.
 use Rattle.std.specs.Prelude.{◌≡◌, Bool, true, ◌⊎◌, ℕ, eqb}

@@ -1,6 +1,7 @@
--- What a reader of the demands has to believe, in the order to read it. A claim is a type with a name, as `ShapeRefusals`; the theorem of that
--- name in small letters, `shape-refusals : ShapeRefusals`, proves it, in the file of proofs/ with the same name. Where it is otherwise, the head of
--- the file says so. `tools/claims.py` sees to it that no claim stands here without its theorem.
+-- What a reader of the demands has to believe, in the order to read it. A claim is a type with a name, as `Exactly15V`; the theorem of that name in
+-- small letters, `exactly_15_V : Exactly15V`, proves it, in the file of proofs/ with the same name. Where a definition has that name already, the
+-- theorem has `_lem` behind it: `shape_refusals_lem : ShapeRefusals`. Where it is otherwise, the head of the file says so. `tools/claims.py` sees to
+-- it that no claim stands here without its theorem.
 
 -- What the calls promise, by name
 pub mod CallContracts

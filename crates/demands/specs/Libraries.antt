@@ -1,6 +1,6 @@
 -- A library, for the claims on wrong libraries: an answer to every call under its C name, for every input, and the rows after it. It meets the
 -- contracts where each call does, for every input. That there is one that does is claimed here: the library of the definitions;
--- `definitions-meet` in proofs/RightLibrary.antt proves `DefinitionsMeet`.
+-- `definitions_meet` in proofs/RightLibrary.antt proves `DefinitionsMeet`.
 -- Assumes nothing.
 use Rattle.std.specs.Prelude.{List, ℕ}
 use Rattle.verdicts.specs.declared.Verdict.{Verdict}

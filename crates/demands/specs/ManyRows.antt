@@ -1,5 +1,5 @@
 -- More than eight rows are refused with 30 at place 0 by every sharing call, whatever the rows and the other arguments are. No row is
--- written, and there is no list and no power. Each claim is proved by the theorem of its name in small letters (`set-up-30` is `SetUp30`) in
+-- written, and there is no list and no power. Each claim is proved by the theorem of its name in small letters (`set_up_30` is `SetUp30`) in
 -- proofs/ManyRows.antt.
 -- Assumes nothing.
 use Rattle.std.specs.Prelude.{◌≡◌, List, ℕ, ◌<◌, length}

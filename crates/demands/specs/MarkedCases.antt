@@ -1,5 +1,5 @@
 -- The cases of docs/STATEMENT.md, "Worked by hand", that are marked (P): one table, one claim. A row has what a definition gives, one of those
--- that the contracts cite, and what was worked out by hand; the claim is that they are the same in every row. `marked-cases` in
+-- that the contracts cite, and what was worked out by hand; the claim is that they are the same in every row. `marked_cases` in
 -- proofs/MarkedCases.antt proves `MarkedCases` by computation.
 -- Assumes nothing.
 use Rattle.std.specs.Prelude.{◌≡◌, List, [], ◌∷◌, ◌++◌, map, ℕ, ◌+◌, ◌*◌, ◌^◌, replicate}

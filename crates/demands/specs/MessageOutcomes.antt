@@ -1,6 +1,6 @@
 -- No second outcome, for the calls over messages (T-02): for every input the contract allows one answer only, and where bytes are written one
 -- buffer after the call. `NoSecondMessageOutcome` has a line for each of them. Each line is proved by the theorem of its name,
--- `read-message-settles` for `read-message`, and all together by `no-second-message-outcome`, in proofs/MessageOutcomes.antt
+-- `read_message_settles` for `read_message`, and all together by `no_second_message_outcome`, in proofs/MessageOutcomes.antt
 -- (docs/STATEMENT.md, "What the contracts settle").
 -- Assumes nothing.
 use Rattle.std.specs.Prelude.{◌≡◌, List, ℕ}

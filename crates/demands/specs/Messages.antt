@@ -1,5 +1,5 @@
 -- Whole messages (T-02; docs/STATEMENT.md, "Messages"): what is read and written comes back, which bytes are touched, and which are looked at.
--- Each claim is proved by the theorem of its name in small letters (`write-then-read-message` is `WriteThenReadMessage`) in
+-- Each claim is proved by the theorem of its name in small letters (`write_then_read_message` is `WriteThenReadMessage`) in
 -- proofs/Messages.antt. The calls go by the names that are their clauses: bs is what is lent, r the answer, and cs the buffer after a call that
 -- writes. What the calls refuse is in MessageRefusals, and that they have one outcome in MessageOutcomes.
 -- Assumes nothing.

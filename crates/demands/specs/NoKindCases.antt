@@ -1,5 +1,5 @@
 -- The order of refusals where C hands in an object of no kind, by example: 10, 7, 11, then word by word, then 17. The table has lists with what
--- `arin_write` has to answer, and the claim is that the definition which its contract cites gives just that, row by row. `write-order` in
+-- `arin_write` has to answer, and the claim is that the definition which its contract cites gives just that, row by row. `write_order` in
 -- proofs/NoKindCases.antt proves `WriteOrder` by computation (docs/STATEMENT.md, "Refusal numbers").
 -- Assumes nothing.
 use Rattle.std.specs.Prelude.{◌≡◌, List, [], ◌∷◌, map, ℕ}

@@ -1,6 +1,6 @@
 -- An object of no kind in a list that C writes, that is one whose kind number is above 4, or above 3 in the list of a sink: all its fields fit,
 -- so 7 is not for it. Where the fields of all others fit too, the answer is 11 if it stands first, and else 12 at its place once no word before it is refused.
--- `no-kind-fits`, `no-kind-first` and `no-kind-in-turn` in proofs/NoKindOrder.antt prove the three claims (docs/STATEMENT.md, "Refusal numbers").
+-- `no_kind_fits`, `no_kind_first` and `no_kind_in_turn` in proofs/NoKindOrder.antt prove the three claims (docs/STATEMENT.md, "Refusal numbers").
 -- Objects and words are looked up in a list from 0 on, and refusals count places from 1: what stands at k has the place k + 1.
 -- Assumes nothing.
 use Rattle.std.specs.Prelude.{◌≡◌, false, not, ℕ, ◌+◌, ◌<◌, eqb, get_or}

@@ -1,6 +1,6 @@
 -- No second outcome: for every input, good or bad, a public call's contract allows one answer only, and over lent rows one list of rows after
 -- the call. `NoSecondOutcome` has a line for each public call, by its name or short for it. Each line is proved by the theorem of its name,
--- `shape-settles` for `shape`, and all together by `no-second-outcome`, in proofs/OneOutcome.antt (docs/STATEMENT.md, "What the contracts settle").
+-- `shape_settles` for `shape`, and all together by `no_second_outcome`, in proofs/OneOutcome.antt (docs/STATEMENT.md, "What the contracts settle").
 -- The calls over flat objects and the calls on lists under C names are in FlatOutcomes.
 -- Assumes nothing.
 use Rattle.std.specs.Prelude.{◌≡◌, Bool, List, ℕ}

@@ -1,6 +1,6 @@
 -- Demand 2, the power rules: every list that is built for a profile passes the rule check for that profile, and reads and writes back to
 -- itself. Of each current it is said plainly when the rule check allows it, over the tests that its contract cites. Each claim is proved by the
--- theorem of its name in small letters (`built-passes` is `BuiltPasses`) in proofs/PowerRules.antt (docs/STATEMENT.md, "Power rules").
+-- theorem of its name in small letters (`built_passes` is `BuiltPasses`) in proofs/PowerRules.antt (docs/STATEMENT.md, "Power rules").
 -- Assumes nothing.
 use Rattle.std.specs.Prelude.{◌≡◌, true, ◌↔◌, ◌⊎◌, ℕ, ◌*◌, ◌≤◌, ◌<◌, min}
 use Rattle.verdicts.specs.declared.Verdict.{Verdict}
@@ -24,7 +24,7 @@ BuiltReturns =
     (p : Profile) (b : Listing) → BuildAnswers p b → b.verdict ≡ success
     → (r : Reading) → ReadAnswers b.list r → (w : Listing) → WriteAnswers r.list w → (r.verdict ≡ success) × (w ≡ b)
 
--- ---- which currents are allowed, exactly when: a is a current in 10 mA, for PPS in 50 mA; `downAt` and `upAt` are the quotient 50 P / V rounded
+-- ---- which currents are allowed, exactly when: a is a current in 10 mA, for PPS in 50 mA; `down_at` and `up_at` are the quotient 50 P / V rounded
 
 -- 20 V: the quotient rounded down or up, and no more than the cable carries
 abbrev pub AllowedAt20V : Type 0
@@ -45,7 +45,7 @@ AllowedTo3A =
     (p : Profile) (volts a : ℕ) → (volts ≡ 20 → ⊥) → p.present.0 ≤ 6 * volts
     → (fixed_allowed p volts a ≡ true) ↔ ((a ≡ min (down_at p volts) p.cable.0) ⊎ (a ≡ min (up_at p volts) p.cable.0))
 
--- PPS: the current that is built; or, in the two ranges of M that `mayExceed` has, anything from there up to the quotient rounded down, as far as
+-- PPS: the current that is built; or, in the two ranges of M that `may_exceed` has, anything from there up to the quotient rounded down, as far as
 -- the cable carries it in whole 50 mA
 abbrev pub ProgAllowedExactly : Type 0
 ProgAllowedExactly =

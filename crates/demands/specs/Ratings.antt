@@ -1,6 +1,6 @@
 -- What the two roundings mean for the rating (T-07): with down no fixed or AVS current that is built is above what P gives at its voltage, with up it
--- is less than one step above; programmable supplies are the same with either. The list of a shared port is the one that is built with down. Each claim is proved by the theorem of its name in small letters in proofs/Ratings.antt (docs/STATEMENT.md, "The profile",
--- "The builder" and "Rows").
+-- is less than one step above; programmable supplies are the same with either. The list of a shared port is the one that is built with down. Each
+-- claim is proved by the theorem of its name in small letters in proofs/Ratings.antt (docs/STATEMENT.md, "The profile", "The builder" and "Rows").
 -- Assumes nothing.
 use Rattle.std.specs.Prelude.{◌≡◌, cond, ◌&&◌, List, ℕ, ◌+◌, ◌*◌, ◌≤◌, ◌<◌, eqb, get_or}
 use Rattle.verdicts.specs.declared.Verdict.{Verdict}
@@ -33,11 +33,11 @@ use Rattle.demands.specs.EachObject.{EachObject}
 abbrev pub NotAbove : HalfWatts → ℕ → Ma10 → Type 0
 NotAbove p mv a = mv * ma10 a ≤ mw500 p * 1000
 
--- "less than one step of 10 mA above it": by less than the voltage times 10 mA
+-- less than one step of 10 mA above it: by less than the voltage times 10 mA
 abbrev pub LessThanAStepAbove : HalfWatts → ℕ → Ma10 → Type 0
 LessThanAStepAbove p mv a = mv * ma10 a < mw500 p * 1000 + mv * 10
 
--- of an object that is built: "the voltage of a fixed object times its current", "15 V times the first AVS current and 20 V times the second". Of a
+-- of an object that is built: the voltage of a fixed object times its current, 15 V times the first AVS current and 20 V times the second. Of a
 -- programmable supply nothing is said here, and battery and variable objects are never built
 abbrev pub AtCurrents : (ℕ → Ma10 → Type 0) → Object → Type 0
 AtCurrents Q (Fixed f p v a) = Q (mv50 v) a
@@ -46,14 +46,14 @@ AtCurrents Q (Variable x m a) = ⊥
 AtCurrents Q (Pps l x m a) = Unit {0}
 AtCurrents Q (Avs p l h) = Q 15000 l × Q 20000 h
 
--- ---- "With rounding down a built fixed current is never above the quotient", R 0
+-- ---- With rounding down a built fixed current is never above the quotient, R 0
 
 abbrev pub BuiltDown : Type 0
 BuiltDown =
     (p : Profile) (b : Listing) → BuildAnswers p b → b.verdict ≡ success → p.rounding ≡ 0
     → EachObject (AtCurrents (NotAbove p.present)) b.list
 
--- ---- "with rounding up it is less than one step of 10 mA above it", R 1; and so it is with either
+-- ---- with rounding up it is less than one step of 10 mA above it, R 1; and so it is with either
 
 abbrev pub BuiltUp : Type 0
 BuiltUp =
@@ -66,13 +66,13 @@ AcceptedDown =
     (p : Profile) (b : Listing) → BuildAnswers p b → b.verdict ≡ success → p.rounding ≡ 0
     → (w : ℕ) (v : Verdict) → AnswerAnswers b.list w v → v ≡ success → power_of b.list p.present.0 w ≤ p.present.0
 
--- ---- asking "for down by name": "R down, and all else as it is"
+-- ---- asking for down by name: R down, and all else as it is
 
 abbrev pub asked_for_down : Profile → Profile
 asked_for_down p =
     record { max = p.max; present = p.present; cable = p.cable; rounding = round_down; pps = p.pps; flags = p.flags }
 
--- ---- "The programmable supplies of a list are the same with either rounding."
+-- ---- The programmable supplies of a list are the same with either rounding.
 
 abbrev pub PpsEitherWay : Type 0
 PpsEitherWay =
@@ -82,7 +82,7 @@ PpsEitherWay =
 
 -- ---- the default profile
 
--- "A caller that must not pass the rating asks for down by name: the default profile with R down, and all else as it is."
+-- A caller that must not pass the rating asks for down by name: the default profile with R down, and all else as it is.
 abbrev pub DefaultDown : Type 0
 DefaultDown =
     (m : HalfWatts) (d : Profiled) → DefaultAnswers m d → d.verdict ≡ success
@@ -116,7 +116,7 @@ AdvertisedDown =
     (ys : List Row) (capacity port : ℕ) (r : Listing) (zs : List Row) → SharesAdvertise ys capacity port r zs
     → r.verdict ≡ success → r ≡ built_of (shared_profile (port_row zs port))
 
--- "no fixed object of it has a voltage times current above P"
+-- no fixed object of it has a voltage times current above P
 abbrev pub AttachedWithinP : Type 0
 AttachedWithinP =
     (ys : List Row) (capacity port cable : ℕ) (r : Listing) (zs : List Row) → SharesAttach ys capacity port cable r zs

@@ -1,6 +1,6 @@
 -- Demand 1, refusals: a call gives number n with its place exactly when refusal n applies there and none before it in the order does, and it
 -- succeeds exactly when none applies. On a refusal all else in the answer is zero. Each claim is proved by the theorem of its name in small
--- letters (`shape-refusals` is `ShapeRefusals`) in proofs/Refusals.antt.
+-- letters (`shape_refusals_lem` is `ShapeRefusals`) in proofs/Refusals.antt.
 -- The table of each call, in the order of docs/STATEMENT.md, "Refusal numbers", is in specs/ of `lists`, `rules` and `requests`; a row
 -- `refusal b n p` has whether it applies, its number and its place. A place counts from 1, and is 0 where a refusal has none.
 -- Calls whose answer is an enum are in EnumRefusals, those of C in FlatRefusals, those over rows in SharingRefusals.

@@ -1,5 +1,5 @@
 -- What numbers a shared request can get: none, one of its own (20, 22 to 25, at place 0), or one of sharing (30 to 37). So no refusal of a list's
--- shape (10 to 17) comes out of it, for any rows, sound or not. `request-outcome` and `never-of-shape` in proofs/RequestNumbers.antt prove the two
+-- shape (10 to 17) comes out of it, for any rows, sound or not. `request_outcome` and `never_of_shape` in proofs/RequestNumbers.antt prove the two
 -- claims (docs/STATEMENT.md, "Refusal numbers").
 -- Assumes nothing.
 use Rattle.std.specs.Prelude.{◌≡◌, Bool, true, List, ℕ, ◌≤◌}

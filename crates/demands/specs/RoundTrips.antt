@@ -1,6 +1,6 @@
 -- Demand 2, what is read and written: a word becomes an object and that object the same word again, and the other way round; and so do lists.
 -- A list comes back as it was up to its count, and zero past it. Each claim is proved by the theorem of its name in small letters
--- (`decode-then-encode` is `DecodeThenEncode`) in proofs/RoundTrips.antt.
+-- (`decode_then_encode` is `DecodeThenEncode`) in proofs/RoundTrips.antt.
 -- Assumes nothing.
 use Rattle.std.specs.Prelude.{◌≡◌, Bool, false, ℕ, ◌^◌, ◌<◌}
 use Rattle.verdicts.specs.Refusals.{success}

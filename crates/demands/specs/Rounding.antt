@@ -1,5 +1,5 @@
 -- Rounding both ways from one division (docs/STATEMENT.md, "Steps of measure"; T-03). Each claim is proved by the theorem of its name in small
--- letters (`both-from-one` is `BothFromOne`) in proofs/Rounding.antt.
+-- letters (`both_from_one` is `BothFromOne`) in proofs/Rounding.antt.
 -- Assumes nothing.
 use Rattle.std.specs.Prelude.{◌≡◌, ℕ, ◌+◌, ◌*◌, ◌-◌, ◌≤◌, ◌<◌}
 use Rattle.steps.specs.declared.Roundings.{Roundings}

@@ -2,7 +2,7 @@
 -- the request's own only, never for the shape of the list. No request that is accepted on it has more power than the row's P, so what a port
 -- holds stays within 15 .. P. Each claim is proved by the theorem of its name in small letters: the first four in proofs/RuleLists.antt, the last
 -- three in proofs/AcceptedPower.antt (docs/STATEMENT.md, "Ports that share").
--- `Offerable` (ports, specs/RuleLists) is a row for which a list can be built. The claims are over the definitions that the contracts cite: `ruleList`, `checkedOf` and `answer_of`.
+-- `Offerable` (ports, specs/RuleLists) is a row for which a list can be built. The claims are over the definitions that the contracts cite: `rule_list`, `checked_of` and `answer_of`.
 -- Assumes nothing.
 use Rattle.std.specs.Prelude.{◌≡◌, ℕ, ◌≤◌}
 use Rattle.verdicts.specs.declared.Verdict.{Verdict}

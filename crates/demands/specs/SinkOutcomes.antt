@@ -1,6 +1,6 @@
 -- No second outcome, for the calls over sink lists: for every input the contract allows one answer only. `NoSecondSinkOutcome` has a line for
--- each of them, by its name. Each line is proved by the theorem of its name, `sink-shape-settles` for `sink-shape`, and all together by
--- `no-second-sink-outcome`, in proofs/SinkOutcomes.antt (docs/STATEMENT.md, "What the contracts settle").
+-- each of them, by its name. Each line is proved by the theorem of its name, `sink_shape_settles` for `sink_shape`, and all together by
+-- `no_second_sink_outcome`, in proofs/SinkOutcomes.antt (docs/STATEMENT.md, "What the contracts settle").
 -- Assumes nothing.
 use Rattle.std.specs.Prelude.{ℕ}
 use Rattle.steps.specs.declared.HalfWatts.{HalfWatts}

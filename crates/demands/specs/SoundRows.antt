@@ -1,5 +1,5 @@
 -- Rows that are sound stay sound after any sharing call, accepted or refused, with any arguments. After an accepted set-up they are sound
--- whatever else the lent rows held. Each claim is proved by the theorem of its name in small letters (`attach-keeps` is `AttachKeeps`) in
+-- whatever else the lent rows held. Each claim is proved by the theorem of its name in small letters (`attach_keeps` is `AttachKeeps`) in
 -- proofs/SoundRows.antt (docs/STATEMENT.md, "Ports that share").
 -- Assumes nothing.
 use Rattle.std.specs.Prelude.{◌≡◌, true, List, map, ℕ, ◌≤◌, ◌<◌, length}

@@ -1,8 +1,8 @@
 -- Summaries (T-06; docs/STATEMENT.md, "Summaries"): a summary says what the objects of its list allow, and the answer from it is the answer from
 -- the list. Each claim is over the contracts of the calls, for every input, and is proved by the theorem of its name in small letters in
--- proofs/Summaries.antt (`summary-at-15-V` is `SummaryAt15V`).
--- `limitsOf o` (summaries, specs/Summaries) is the table of limits, object by object; `rowOf s p` the row of position p, which counts from 1;
--- `named_by l w` what the word that a request names stands for; `askedAs a` (summaries, specs/Taking) a decoded request as `take_apart` gives it.
+-- proofs/Summaries.antt (`summary_at_15_V` is `SummaryAt15V`).
+-- `limits_of o` (summaries, specs/Summaries) is the table of limits, object by object; `row_of s p` the row of position p, which counts from 1;
+-- `named_by l w` what the word that a request names stands for; `asked_as a` (summaries, specs/Taking) a decoded request as `take_apart` gives it.
 -- Assumes nothing.
 use Rattle.std.specs.Prelude.{◌≡◌, true, false, ◌↔◌, ◌⊎◌, ℕ, ◌-◌, ◌≤◌, ◌<◌, max, [], length, get_or}
 use Rattle.verdicts.specs.declared.Verdict.{Verdict}

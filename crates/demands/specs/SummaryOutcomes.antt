@@ -1,6 +1,6 @@
 -- No second outcome, for the calls over summaries and decoded requests: for every input the contract allows one answer only.
--- `NoSecondSummaryOutcome` has a line for each of them, by its name. Each line is proved by the theorem of its name, `summarize-settles` for
--- `summarize`, and all together by `no-second-summary-outcome`, in proofs/SummaryOutcomes.antt (docs/STATEMENT.md, "What the contracts settle").
+-- `NoSecondSummaryOutcome` has a line for each of them, by its name. Each line is proved by the theorem of its name, `summarize_settles` for
+-- `summarize`, and all together by `no_second_summary_outcome`, in proofs/SummaryOutcomes.antt (docs/STATEMENT.md, "What the contracts settle").
 -- Assumes nothing.
 use Rattle.lists.specs.declared.Words.{Words}
 use Rattle.summaries.specs.declared.Summary.{Summary}

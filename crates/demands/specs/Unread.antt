@@ -1,6 +1,6 @@
 -- Places past the count are not read: two lists that agree up to their count get the same answer, whatever stands past it. This holds for
 -- every call that takes a list (docs/STATEMENT.md, "Lists in hand"). Each claim is proved by the theorem of its name in small letters
--- (`shape-does-not-look` is `ShapeDoesNotLook`) in proofs/Unread.antt.
+-- (`shape_does_not_look` is `ShapeDoesNotLook`) in proofs/Unread.antt.
 -- `AgreeWords` and `AgreeObjects` (lists, specs/Unread): the same count, and the same up to it. There a list is looked up from 0 on: its first word is
 -- `get_or l.words 0 0`, and those below the count are its words.
 -- Assumes nothing.

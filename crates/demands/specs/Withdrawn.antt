@@ -1,6 +1,6 @@
 -- The number 21 is withdrawn (T-01; docs/STATEMENT.md, "Refusal numbers"): no public call gives it, for any input. A call that hands on a refusal of
 -- its caller's gives 21 only if that was 21. `Never21` has a line for each public call that gives the number of a refusal, and is proved by
--- `never-21` in proofs/Withdrawn.antt.
+-- `never_21` in proofs/Withdrawn.antt.
 -- Assumes nothing.
 use Rattle.std.specs.Prelude.{◌≡◌, Bool, List, ℕ}
 use Rattle.verdicts.specs.declared.Verdict.{Verdict}

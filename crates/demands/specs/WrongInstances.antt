@@ -1,6 +1,6 @@
 -- The six wrong libraries of docs/STATEMENT.md, "What the contracts settle", each as a definition: in which ways a library is wrong. No library
 -- that meets the contracts is wrong in any of these ways, shown on the rows of the worked cases, capacity 200 and two ports of M 130.
--- `no-wrong-library` in proofs/WrongInstances.antt proves `NoWrongLibrary`; each way has a theorem of its own there, which follows from
+-- `no_wrong_library` in proofs/WrongInstances.antt proves `NoWrongLibrary`; each way has a theorem of its own there, which follows from
 -- WrongLibraries. That there is a library which meets them is claimed in Libraries.
 -- Assumes nothing.
 use Rattle.std.specs.Prelude.{◌≡◌, List, [], ◌∷◌, ℕ}
@@ -36,7 +36,7 @@ first_call = attached 1 500 (accepting list_130) ∷ []
 abbrev pub both_calls : List Event
 both_calls = requested 1 (fixed 4 325) success ∷ first_call
 
--- it is a run; `first-calls` proves it
+-- it is a run; `first_calls` proves it
 abbrev pub FirstCalls : Type 0
 FirstCalls = Run 200 none_attached both_calls one_holds
 

@@ -1,7 +1,7 @@
 -- The six wrong libraries of docs/STATEMENT.md, "What the contracts settle", in general: what a library that meets the contracts does, so that
 -- none of the six meets them. On lists this is said of a `Library`, for every M and every profile that nothing refuses; sharing is said after
--- every run, of any answer and any rows that the contract of the next call allows, so of a library with any memory of its own. `lists-served`,
--- `built-served` and `sharing-served` in proofs/WrongLibraries.antt prove the claims `ListsServed`, `BuiltServed` and `SharingServed`; each
+-- every run, of any answer and any rows that the contract of the next call allows, so of a library with any memory of its own. `lists_served`,
+-- `built_served` and `sharing_served` in proofs/WrongLibraries.antt prove the claims `ListsServed`, `BuiltServed` and `SharingServed`; each
 -- field of their records is a theorem of its own name there.
 -- The six: 1 refuses everything; 2 attaches no port, or accepts no shared request; 3 always gives the 5 V list; 4 ignores requests, or never
 -- changes a row; 5 serves the first call of a run and afterwards only nods; 6 invents counts or remaining power. The number before a field says

@@ -1,4 +1,4 @@
--- One word judged: the cases of `judgedOf`, and what a judgement says of the word's rows.
+-- One word judged: the cases of `judged_of`, and what a judgement says of the word's rows.
 -- Assumes nothing.
 use mathlib.Core.Path.{◌≡◌, refl, sym, ap, ◌∙◌, subst}
 use mathlib.Core.Bool.{Bool, true, false, not}

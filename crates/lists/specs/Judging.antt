@@ -1,4 +1,4 @@
--- How the loops of the shape check and of writing go (STATEMENT, "Shape of a list"): parts of `shape_of` and `writeOf`, named for the
+-- How the loops of the shape check and of writing go (STATEMENT, "Shape of a list"): parts of `shape_of` and `write_of`, named for the
 -- functions that work them out.
 -- Assumes nothing.
 use Rattle.std.specs.Prelude.{◌≡◌, ℕ, Bool, cond, eqb}

@@ -1,4 +1,4 @@
--- The words made of objects (STATEMENT, "Lists in hand"), before their shape is looked at: a part of `writtenFrom`.
+-- The words made of objects (STATEMENT, "Lists in hand"), before their shape is looked at: a part of `written_from`.
 -- Assumes nothing.
 use Rattle.std.specs.Prelude.{ℕ, ◌∷◌}
 use Rattle.verdicts.specs.Refusals.{refusal, each_place, first_of, success}

@@ -1,4 +1,4 @@
--- `decodeOf` by the numbers in the kind's bits, and by the one number that `kindBits` makes of them.
+-- `decode_of` by the numbers in the kind's bits, and by the one number that `kind_bits` makes of them.
 -- Assumes nothing.
 use mathlib.Core.Path.{◌≡◌, refl, ap, sym, ◌∙◌, subst}
 use mathlib.Core.Bool.{Bool, true, false, cond}

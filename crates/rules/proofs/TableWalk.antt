@@ -176,7 +176,7 @@ whole : (b : Bool) (s : Slot) → slot_if (b && true) s ++ [] ≡ slot_if b s
 whole true s = refl
 whole false s = refl
 
--- these rows are those of `progSlots`. 20 V Prog is "there when" M > 90: no M is above 200, so none reaches 201
+-- these rows are those of `prog_slots`. 20 V Prog is "there when" M > 90: no M is above 200, so none reaches 201
 supplies_are : (m : ℕ) → m ≤ 200 → chosen (supply_slots m) supplies ≡ prog_slots m
 unfolding prog_slots
 supplies_are m h =

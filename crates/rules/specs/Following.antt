@@ -1,4 +1,4 @@
--- How the rule check follows a list along the tables (STATEMENT, "The rule check"): parts of `checkedOf`, named for the functions that
+-- How the rule check follows a list along the tables (STATEMENT, "The rule check"): parts of `checked_of`, named for the functions that
 -- work them out. That they decide the set of objects and find the first current that is not allowed is proved in proofs/Followed and
 -- proofs/SetLaw.
 -- Assumes nothing.

@@ -36,7 +36,7 @@ as_sink (decoded.Known (source.Pps l x m a)) = Known (Pps x m a)
 as_sink (decoded.Known (source.Avs p l h)) = NotAllowed
 as_sink decoded.NotAllowed = NotAllowed
 
--- by the number of the kind, as `sinkDecodeOf` is
+-- by the number of the kind, as `sink_decode_of` is
 abbrev by_number : ℕ → ℕ → SinkDecoded
 by_number kind w = cond (not_allowed_for Sink kind) NotAllowed (Known (sink_by kind w))
 

@@ -32,7 +32,7 @@ maximum_by (Avs v a) = 0
 
 -- ---- what a row allows
 
--- "The limit is a current of the row, by the voltage that is asked for": `avsLimit` is that table. "A fixed and a variable request ask for
+-- "The limit is a current of the row, by the voltage that is asked for": `avs_limit` is that table. "A fixed and a variable request ask for
 -- no voltage: their limit is that below 15.0 V"
 abbrev pub limit_for : List ℕ → QuickRequest → ℕ
 limit_for ls (Fixed o m) = below_in ls
@@ -82,7 +82,7 @@ summary_refusals s a =
 unfoldable pub answered_by : Summary → QuickAsked → Verdict
 answered_by s a = verdict_of (summary_refusals s a)
 
--- ---- a part of `judgedBy`, named for the function that works it out: a voltage in mV and a current in mA, "22, 24"
+-- ---- a part of `judged_by`, named for the function that works it out: a voltage in mV and a current in mA, "22, 24"
 
 abbrev pub range_refusals : List ℕ → ℕ → ℕ → List Refusal
 range_refusals ls mv ma =

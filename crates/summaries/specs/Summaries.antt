@@ -32,7 +32,7 @@ below_in ls = get_or ls 2 0
 abbrev pub above_in : List ℕ → ℕ
 above_in ls = get_or ls 3 0
 
--- the table, object by object. `avsTop` is "15000 where the second current is zero, else 20000".
+-- the table, object by object. `avs_top` is "15000 where the second current is zero, else 20000".
 unfoldable pub limits_of : Object → List ℕ
 limits_of (Fixed f p v a) = row (mv50 v) (mv50 v) (ma10 a) (ma10 a)
 limits_of (Battery x m p) = row (mv50 m) (mv50 x) 0 0

@@ -1,4 +1,4 @@
--- `flat::raise` meets its contract: each arm of the `match` says which case of `raisedOf` holds.
+-- `flat::raise` meets its contract: each arm of the `match` says which case of `raised_of` holds.
 -- Assumes nothing.
 use mathlib.Core.Path.{◌≡◌, ap, sym, ◌∙◌}
 use Rattle.flat.specs.declared.FlatObject.{FlatObject}

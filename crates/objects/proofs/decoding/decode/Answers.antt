@@ -1,4 +1,4 @@
--- `objects::decode` meets its contract: each arm of the `match` says which case of `decodeOf` holds.
+-- `objects::decode` meets its contract: each arm of the `match` says which case of `decode_of` holds.
 -- Assumes nothing.
 use mathlib.Core.Path.{◌≡◌, ◌∙◌, sym, ap}
 use Prim.Native.Nat.{ℕ, ◌+◌}

@@ -1,4 +1,4 @@
--- `rules::building::current_in` meets its contract: the law `taken-low` at bits 9..0.
+-- `rules::building::current_in` meets its contract: the law `taken_low` at bits 9..0.
 -- Assumes nothing.
 use Rattle.objects.proofs.Taking.{taken_low}
 use Rattle.rules.proofs.building.current_in.Goals as goal
