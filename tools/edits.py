@@ -24,7 +24,7 @@ written, and `refused:` then has every function that fails for it.
 rt ci says of a file that it is refused, and keeps no log. So `check` tries each file once more, as rt does and by what rt is made of: on a copy
 of the crate, over what an earlier check kept, with the libraries below as rt builds them. As many run side by side as rt would run, or RT_JOBS.
 What the prover said is kept in ~/.cache/arinduleu/edits (XDG_CACHE_HOME moves it) under the checksum of all that it read, and judged anew
-each time; `check --anew` tries all. `check --goals` also prints the goals and answers that failed, for each wrong answer and function.
+each time; `check --anew` tries all. `check --goals` also prints the goals, answers and lemmas that failed, for each wrong answer and function.
 A wrong answer can rename the goals and places of its function, since these have their names from the conditions in the code; then an answer
 of the proof is there for a name that is gone, which shows nothing. Where nothing else fails in that function, the check is made once more with the
 answers under the names that the prover asks for now.
@@ -160,7 +160,8 @@ class Refusal:
         waiting = any(WAITS.search(it) and not CALLED.search(it) for it in errors)
         searched = "did not prove" in said or "expected answers" in said
         self.is_own = self.shown or misfit or waiting or bool(self.open) or searched or not self.calls
-        self.failed = list(dict.fromkeys([*self.open, *re.findall(r"^`([^`]+)`: ", "\n".join(errors), re.M)]))
+        named = [*re.findall(r"^`([^`]+)`: ", "\n".join(errors), re.M), *re.findall(r"depends? on `([^`]*)`", "\n".join(errors))]
+        self.failed = list(dict.fromkeys(it for it in [*self.open, *named] if it not in self.gone))
         # Only names that are gone tell against the answer.
         self.by_name = misfit and not self.shown
         # What stands there now, as far as the log has it.
