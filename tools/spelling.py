@@ -143,4 +143,5 @@ def main():
     print(f"spelling: {sum(respelled(n) != n for names in old.values() for n in names)} names, {len(lemmas)} lemmas with the name of a definition: {' '.join(sorted(lemmas))}")
 
 
-main()
+if __name__ == "__main__":
+    main()
