@@ -45,7 +45,7 @@ use Rattle.objects.proofs.decode.Reads as decode
 use Rattle.objects.proofs.decode_for.Reads as decode_for
 use Rattle.objects.proofs.reserved_bit_set.Reads as reserved_bit_set
 use Rattle.objects.proofs.encode.Reads as encode
-use Rattle.objects.proofs.fixed_word.Reads as Fixed-word
+use Rattle.objects.proofs.fixed_word.Reads as fixed_word
 use Rattle.objects.proofs.pps_word.Reads as pps_word
 use Rattle.objects.proofs.avs_word.Reads as avs_word
 use Rattle.lists.specs.declared.Words.{Words}
@@ -164,7 +164,7 @@ EncodeAnswers o r = encode.Post tt (o, tt) r (o, tt)
 
 abbrev pub FixedWordAnswers : ℕ → ℕ → Mv50 → Ma10 → Encoded → Type 0
 FixedWordAnswers flags peak volts current r =
-    Fixed-word.Post tt (flags, (peak, (volts, (current, tt)))) r (flags, (peak, (volts, (current, tt))))
+    fixed_word.Post tt (flags, (peak, (volts, (current, tt)))) r (flags, (peak, (volts, (current, tt))))
 
 abbrev pub PpsWordAnswers : ℕ → Mv100 → Mv100 → Ma50 → Encoded → Type 0
 PpsWordAnswers limited max min current r =

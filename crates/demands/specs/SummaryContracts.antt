@@ -8,7 +8,7 @@ use Rattle.summaries.specs.declared.Summary.{Summary}
 use Rattle.summaries.specs.declared.Summarized.{Summarized}
 use Rattle.summaries.specs.declared.QuickAsked.{QuickAsked}
 use Rattle.summaries.specs.declared.TakenRequest.{TakenRequest}
-use Rattle.summaries.proofs.rows_of.Reads as rows_of_lem
+use Rattle.summaries.proofs.rows_of.Reads as rows_of
 use Rattle.summaries.proofs.summarize.Reads as summarize
 use Rattle.summaries.proofs.take_request.Reads as take_request
 use Rattle.summaries.proofs.answer_summary.Reads as answer_summary
@@ -23,7 +23,7 @@ use Rattle.board.proofs.arin_answer_summary.Reads as arin_answer_summary
 -- ---- summaries
 
 abbrev pub RowsOfAnswers : Summary → List (List ℕ) → Type 0
-RowsOfAnswers s r = rows_of_lem.Post tt (s, tt) r (s, tt)
+RowsOfAnswers s r = rows_of.Post tt (s, tt) r (s, tt)
 
 abbrev pub SummarizeAnswers : Words → Summarized → Type 0
 SummarizeAnswers l r = summarize.Post tt (l, tt) r (l, tt)
