@@ -1,14 +1,14 @@
 -- A decoded request judged by the limits of a row: the cases that the code tells apart.
 -- Assumes nothing.
-use mathlib.Core.Path.{◌≡◌, refl, sym, ap, ◌∙◌}
+use mathlib.Core.Path.{◌≡◌, refl, ap, ◌∙◌}
 use mathlib.Core.Bool.{Bool, true, false, not, and-false}
-use mathlib.Core.List.{List, [], ◌∷◌, ◌++◌}
+use mathlib.Core.List.{List}
 use Prim.Native.Nat.{ℕ, ◌*◌, ◌%◌, ◌<◌, ◌≤◌}
 use native.Mathlib.Omega.{arith}
 use lib.Dec.{leb}
 use borrow.Author.Tests.{le-leb, lt-leb}
-use Rattle.verdicts.specs.Refusals.{Refusal, refusal, first_of, verdict, success, verdict_of}
-use Rattle.verdicts.proofs.First.{hit, miss, onward}
+use Rattle.verdicts.specs.Refusals.{first_of, verdict, success}
+use Rattle.verdicts.proofs.First.{hit, miss, without_last}
 use Rattle.steps.specs.Units.{mv20, mv25, ma50}
 use Rattle.steps.specs.declared.Ma10.{Ma10}
 use Rattle.steps.specs.declared.Ma50.{Ma50}
@@ -21,11 +21,6 @@ use Rattle.requests.proofs.AvsLimits.{whole_100, not_whole_100}
 use Rattle.summaries.specs.declared.QuickRequest.TheVariants.{Fixed, Variable, Pps, Avs}
 use Rattle.summaries.specs.Summaries.{lowest_in, highest_in, below_in, above_in}
 use Rattle.summaries.specs.Answering.{limit_for, judged_by, range_by, range_refusals}
-
--- a last row that does not apply changes nothing
-without_last : (rs : List Refusal) (n p : ℕ) → verdict_of rs ≡ verdict_of (rs ++ (refusal false n p ∷ []))
-unfolding first_of
-without_last rs n p = sym (onward verdict success rs (refusal false n p ∷ []))
 
 module _ (ls : List ℕ) where
   -- ---- fixed and variable: two currents, and no voltage
@@ -80,7 +75,7 @@ module _ (ls : List ℕ) where
 
   pub pps_by_range : (v : Mv20) (a : Ma50) (mismatch : Bool) → range_by ls (mv20 v) (ma50 a) ≡ judged_by ls mismatch (Pps v a)
   unfolding range_by judged_by first_of
-  pps_by_range v a mismatch = rw (no_maximum (limit_for ls (Pps v a)) mismatch) (without_last (range_refusals ls (mv20 v) (ma50 a)) 25 0)
+  pps_by_range v a mismatch = rw (no_maximum (limit_for ls (Pps v a)) mismatch) (without_last verdict success (range_refusals ls (mv20 v) (ma50 a)) 25 0)
 
   module _ (v : Mv25) (a : Ma50) (mismatch : Bool) where
     pub avs_not_whole : (v.0 % 4 ≡ 0 → ⊥) → judged_by ls mismatch (Avs v a) ≡ verdict 23 0
@@ -89,7 +84,7 @@ module _ (ls : List ℕ) where
 
     pub avs_by_range : v.0 % 4 ≡ 0 → range_by ls (mv25 v) (ma50 a) ≡ judged_by ls mismatch (Avs v a)
     unfolding range_by judged_by first_of
-    avs_by_range e = rw (whole_100 v.0 e, no_maximum (limit_for ls (Avs v a)) mismatch) (without_last (range_refusals ls (mv25 v) (ma50 a)) 25 0)
+    avs_by_range e = rw (whole_100 v.0 e, no_maximum (limit_for ls (Avs v a)) mismatch) (without_last verdict success (range_refusals ls (mv25 v) (ma50 a)) 25 0)
 
     -- bit 26 is not looked at
     pub avs_either_way : judged_by ls false (Avs v a) ≡ judged_by ls mismatch (Avs v a)

@@ -31,6 +31,11 @@ module _ {A : Type 0} (refused : ℕ → ℕ → A) (answer : A) where
   onward (refusal true n p ∷ xs) ys = refl
   onward (refusal false n p ∷ xs) ys = onward xs ys
 
+  -- a last row that does not apply changes nothing
+  pub without_last : (rs : List Refusal) (n p : ℕ) → first_of refused rs answer ≡ first_of refused (rs ++ (refusal false n p ∷ [])) answer
+  unfolding first_of
+  without_last rs n p = sym (onward rs (refusal false n p ∷ []))
+
 -- a part of the answer is a first refusal too
 pub onto : {A B : Type 0} (part : A → B) (refused : ℕ → ℕ → A) (rs : List Refusal) (answer : A)
     → part (first_of refused rs answer) ≡ first_of (λ n p. part (refused n p)) rs (part answer)

@@ -1,7 +1,8 @@
 -- `flat::requesting::raise_request` meets its contract: by the kind number.
 -- Assumes nothing.
 use Rattle.flat.proofs.Requests.{raised_as, raised_none}
-use mathlib.Core.Path.{sym, ◌∙◌}
+use native.Mathlib.Omega.{arith}
+use mathlib.Core.Path.{◌≡◌, sym, ◌∙◌}
 use Rattle.flat.proofs.requesting.raise_request.Goals as goal
 
 pub returns-in-0 : goal.returns-in-0
@@ -26,5 +27,9 @@ returns-in-4 c =
 
 pub returns-in_default : goal.returns-in_default
 returns-in_default c =
-    let n = c.in_default.in_default-own.rest in
-    sym (raised_none c.args.flat n.0.0.0.1 n.0.0.1 n.0.1 n.1)
+    let kind = c.args.flat.kind in
+    let not_0 : kind ≡ 0 → ⊥ = λ e. omega (arith, e) in
+    let not_2 : kind ≡ 2 → ⊥ = λ e. omega (arith, e) in
+    let not_3 : kind ≡ 3 → ⊥ = λ e. omega (arith, e) in
+    let not_4 : kind ≡ 4 → ⊥ = λ e. omega (arith, e) in
+    sym (raised_none c.args.flat not_0 not_2 not_3 not_4)

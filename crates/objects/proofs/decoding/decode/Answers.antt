@@ -18,11 +18,7 @@ use Rattle.objects.proofs.decoding.decode.Goals.{In_default}
 is_augmented : (c : In_default) → bits c.args.w 31 30 ≡ 3
 is_augmented c =
     let w = c.args.w in
-    let t = taken w 31 30 in
-    let a : bits w 31 30 ≡ 0 → ⊥ = λ e. c.in_default.in_default-own.rest.0.0.1 (t ∙ e) in
-    let b : bits w 31 30 ≡ 1 → ⊥ = λ e. c.in_default.in_default-own.rest.0.1 (t ∙ e) in
-    let d : bits w 31 30 ≡ 2 → ⊥ = λ e. c.in_default.in_default-own.rest.1 (t ∙ e) in
-    omega (arith, bits_lt w 31 30, a, b, d)
+    omega (arith, bits_lt w 31 30, taken w 31 30)
 
 -- an answer that is the definition's says what is to be said
 says : (w : ℕ) (r : Decoded) → r ≡ decode_of w → decoded_says r ≡ word_says w
