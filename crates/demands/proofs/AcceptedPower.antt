@@ -1,6 +1,7 @@
 -- Proves the claims of specs/RuleLists.antt on the power of a request: a built current is the quotient of P rounded down, so voltage times
 -- current never passes P; a PPS request is cut to P.
 -- Assumes nothing.
+use Rattle.std.specs.Prelude.{Option}
 use mathlib.Core.Path.{◌≡◌, refl, sym, ap, ◌∙◌, subst}
 use mathlib.Core.Bool.{Bool, true, false, cond, and-eq-true_iff}
 use Prim.Native.Nat.{ℕ, ◌-◌, ◌*◌, ◌≤◌, ◌<◌}
@@ -15,7 +16,6 @@ use Rattle.steps.specs.declared.Ma10.{Ma10}
 use Rattle.steps.proofs.RoundingLaws.{down_under, up_least}
 use Rattle.steps.proofs.StepTests.{product}
 use Rattle.objects.specs.declared.Object.{Object}
-use Rattle.objects.specs.declared.Decoded.{Decoded}
 use Rattle.lists.specs.declared.Words.{Words}
 use Rattle.lists.specs.Reading.{object_of}
 use Rattle.rules.specs.declared.Profile.{Profile}
@@ -120,7 +120,7 @@ module _ (p : Profile) (down : p.rounding ≡ 0) where
       let h : k < (built_words p).count = omega (arith, a.from_1, a.to_count) in
       let d = known p b k h in
       let o : a.object ≡ object_for p (eqb k 0) s = ap object_of (sym a.names ∙ d) in
-      subst (λ (x : Decoded). power_in x P w ≤ P) (sym d)
+      subst (λ (x : Option Object). power_in x P w ≤ P) (sym d)
       (slot_power (eqb k 0) s (good p b k h) w
       (subst (λ (x : Object). in_range x (volts_of (request_of x w)) ≡ true) o a.in_range)
       (subst (λ (x : Object). operating_of (request_of x w) ≤ advertised_at x (volts_of (request_of x w))) o a.at_most))

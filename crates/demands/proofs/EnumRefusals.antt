@@ -1,5 +1,7 @@
 -- Proves the claims of specs/EnumRefusals.antt.
 -- Assumes nothing.
+use Rattle.std.specs.Prelude.{Option, Some, None}
+use Rattle.objects.specs.declared.Object.{Object}
 use mathlib.Core.Path.{◌≡◌, refl, sym, ◌∙◌, subst}
 use mathlib.Core.Bool.{Bool, true, false, true≢false, cond}
 use mathlib.Core.Logic.{◌↔◌, ◌⊎◌, inl, inr, ⊎_elim}
@@ -24,10 +26,6 @@ use Rattle.steps.specs.Measure.{converted_of, mv20_says, mv25_says, mv50_says, m
 use Rattle.steps.proofs.ConversionLaws.{exactly_only, lost_only, given_or_refused}
 use Rattle.objects.specs.declared.Side.TheVariants.{Source}
 use Rattle.objects.specs.declared.Object.TheVariants.{Fixed, Pps, Avs}
-use Rattle.objects.specs.declared.Decoded.{Decoded}
-use Rattle.objects.specs.declared.Decoded.TheVariants.{Known, NotAllowed}
-use Rattle.objects.specs.declared.Encoded.{Encoded}
-use Rattle.objects.specs.declared.Encoded.TheVariants.{Word, TooWide}
 use Rattle.objects.specs.Bits.{bits}
 use Rattle.objects.specs.Layout.{Field, all_fit}
 use Rattle.objects.specs.Decode.{kind_bits, not_allowed_for, zero_object, decode_of, decoded_says}
@@ -35,13 +33,9 @@ use Rattle.objects.specs.Encode.{fields_of, word_of, encoded_says, fields_say}
 use Rattle.objects.proofs.Numbers.{decode_refuses, fields_refused}
 use Rattle.objects.proofs.Saying.{word_says_lem, fields_say_lem}
 use Rattle.lists.specs.declared.Words.{Words}
-use Rattle.rules.specs.declared.Placed.{Placed}
-use Rattle.rules.specs.declared.Placed.TheVariants as placed
 use Rattle.rules.specs.Building.{built_of}
 use Rattle.rules.specs.Placing.{placed_says, placed_in}
 use Rattle.rules.proofs.Saying.{place_says_lem}
-use Rattle.flat.specs.declared.Raised.{Raised}
-use Rattle.flat.specs.declared.Raised.TheVariants as raised
 use Rattle.flat.specs.Flat.{raised_of, raised_says}
 use Rattle.flat.proofs.BothWays.{raise_refuses}
 use Rattle.flat.proofs.Saying.{flat_says_lem}
@@ -144,13 +138,13 @@ one_refusal none n Applies said f two exact = record {
 
 -- ---- objects
 
-decoded_two : (d : Decoded) → TwoWays zero_object 12 (decoded_says d)
-decoded_two (Known o) = inl refl
-decoded_two NotAllowed = inr (refl, refl)
+decoded_two : (d : Option Object) → TwoWays zero_object 12 (decoded_says d)
+decoded_two (Some o) = inl refl
+decoded_two None = inr (refl, refl)
 
-encoded_two : (e : Encoded) → TwoWays 0 7 (encoded_says e)
-encoded_two (Word w) = inl refl
-encoded_two TooWide = inr (refl, refl)
+encoded_two : (e : Option ℕ) → TwoWays 0 7 (encoded_says e)
+encoded_two (Some w) = inl refl
+encoded_two None = inr (refl, refl)
 
 -- an answer by a test: refused where it is true
 pub refused_where : {A : Type 0} (none given : A) (n : ℕ) → (n ≡ 0 → ⊥) → (b : Bool) → OneRefusal none n (b ≡ true) (cond b (n, none) (0, given))
@@ -166,7 +160,7 @@ decode_12 w r e =
     (one_refusal zero_object 12 _ (decoded_says (decode_of w)) (λ z. omega (arith, z)) (decoded_two (decode_of w)) (decode_refuses w))
 
 -- whatever the layout
-pub fields_7 : (fs : List Field) (r : Encoded) → encoded_says r ≡ fields_say fs → OneRefusal 0 7 (all_fit fs ≡ false) (encoded_says r)
+pub fields_7 : (fs : List Field) (r : Option ℕ) → encoded_says r ≡ fields_say fs → OneRefusal 0 7 (all_fit fs ≡ false) (encoded_says r)
 fields_7 fs r e =
     subst (OneRefusal 0 7 (all_fit fs ≡ false)) (sym (e ∙ fields_say_lem fs))
     (one_refusal 0 7 _ (encoded_says (word_of fs)) (λ z. omega (arith, z)) (encoded_two (word_of fs)) (fields_refused fs))
@@ -185,9 +179,9 @@ avs_word_7 peak low high r e = encode_7 (Avs peak low high) r e
 
 -- ---- flat
 
-raised_two : (r : Raised) → TwoWays zero_object 12 (raised_says r)
-raised_two (raised.Known o) = inl refl
-raised_two raised.Unknown = inr (refl, refl)
+raised_two : (r : Option Object) → TwoWays zero_object 12 (raised_says r)
+raised_two (Some o) = inl refl
+raised_two None = inr (refl, refl)
 
 pub raise_12 : Raise12
 raise_12 x r e =
@@ -196,14 +190,14 @@ raise_12 x r e =
 
 -- ---- rules
 
-placed_two : (r : Placed) → TwoWays 0 20 (placed_says r)
-placed_two (placed.Word w) = inl refl
-placed_two placed.NoPlace = inr (refl, refl)
+placed_two : (r : Option ℕ) → TwoWays 0 20 (placed_says r)
+placed_two (Some w) = inl refl
+placed_two None = inr (refl, refl)
 
 outside : (l : Words) (place : ℕ) → (placed_says (placed_in l place)).0 ≡ 20 ↔ (within 1 l.count place ≡ false)
 unfolding placed_in
 outside l place = go (within 1 l.count place) (get_or l.words (place - 1) 0) where
-  go : (b : Bool) (w : ℕ) → (placed_says (cond b (placed.Word w) placed.NoPlace)).0 ≡ 20 ↔ (b ≡ false)
+  go : (b : Bool) (w : ℕ) → (placed_says (cond b (Some w) None)).0 ≡ 20 ↔ (b ≡ false)
   go true w = ((λ e. absurd (omega (arith, e))), (λ e. absurd (true≢false e)))
   go false w = ((λ e. refl), (λ e. refl))
 

@@ -1,5 +1,6 @@
 -- Proves the claims of specs/FlatRoundTrips.antt.
 -- Assumes nothing.
+use Rattle.std.specs.Prelude.{Some}
 use mathlib.Core.Path.{◌≡◌, sym, ap, ◌∙◌, subst}
 use Prim.Native.Nat.{ℕ, ◌≤◌}
 use lib.ListN.{get_or}
@@ -11,7 +12,6 @@ use Rattle.lists.proofs.Shapes.{none_of}
 use Rattle.lists.proofs.Readings.{read_passes}
 use Rattle.lists.proofs.Writings.{write_passes}
 use Rattle.flat.specs.declared.FlatReading.{FlatReading}
-use Rattle.flat.specs.declared.Raised.TheVariants.{Known}
 use Rattle.flat.specs.Flat.{raised_of}
 use Rattle.flat.specs.Reading.{empty_flat, flat_reading, flat_reading_for}
 use Rattle.flat.specs.Writing.{encoded_flat_at, flat_write_for}
@@ -27,7 +27,7 @@ pub flatten_then_raise : FlattenThenRaise
 flatten_then_raise o x e r f = raised_is x r f ∙ ap raised_of e ∙ raise_flat o
 
 pub raise_then_flatten : RaiseThenFlatten
-raise_then_flatten x own o e y f = f ∙ flat_raise_same x o (sym (raised_is x (Known o) e)) own
+raise_then_flatten x own o e y f = f ∙ flat_raise_same x o (sym (raised_is x (Some o) e)) own
 
 -- ---- a list
 

@@ -1,5 +1,6 @@
 -- Proves the claims of specs/Ratings.antt.
 -- Assumes nothing.
+use Rattle.std.specs.Prelude.{Some}
 use mathlib.Core.Path.{◌≡◌, refl, sym, ap, ◌∙◌, subst}
 use mathlib.Core.Bool.{Bool, true, false, cond, true≢false, and-eq-true_iff}
 use Prim.Native.Nat.{ℕ, zero, suc, ◌+◌, ◌*◌, ◌≤◌, ◌<◌}
@@ -17,7 +18,6 @@ use Rattle.steps.proofs.RangeLaws.{inside, at_least}
 use Rattle.steps.proofs.RoundingLaws.{down_le_up, up_under}
 use Rattle.steps.proofs.StepTests.{product}
 use Rattle.objects.specs.declared.Object.TheVariants as object
-use Rattle.objects.specs.declared.Decoded.TheVariants.{Known}
 use Rattle.objects.proofs.Saying.{decoded_is}
 use Rattle.lists.specs.declared.Words.{Words}
 use Rattle.lists.specs.declared.Listing.{Listing}
@@ -117,12 +117,12 @@ built_up p = built_each (AtCurrents (LessThanAStepAbove p.present)) p (object_up
 -- ---- programmable supplies
 
 module _ (p : Profile) (limited : ℕ) (x m : Mv100) (a : Ma50) where
-  same_supply : (first : Bool) (s : Slot) → Known (object.Pps limited x m a) ≡ Known (object_for p first s)
+  same_supply : (first : Bool) (s : Slot) → Some (object.Pps limited x m a) ≡ Some (object_for p first s)
       → slot_word (asked_for_down p) first s ≡ slot_word p first s
   unfolding object_for prog_current
-  same_supply first Nothing e = let z : Known (object.Pps limited x m a) ≡ Known (object.Fixed _ _ _ _) = e in cc
-  same_supply first (Fixed volts) e = let z : Known (object.Pps limited x m a) ≡ Known (object.Fixed _ _ _ _) = e in cc
-  same_supply first (Avs past15V) e = let z : Known (object.Pps limited x m a) ≡ Known (object.Avs _ _ _) = e in cc
+  same_supply first Nothing e = let z : Some (object.Pps limited x m a) ≡ Some (object.Fixed _ _ _ _) = e in cc
+  same_supply first (Fixed volts) e = let z : Some (object.Pps limited x m a) ≡ Some (object.Fixed _ _ _ _) = e in cc
+  same_supply first (Avs past15V) e = let z : Some (object.Pps limited x m a) ≡ Some (object.Avs _ _ _) = e in cc
   same_supply first (Prog volts top) e = refl
 
 word_built : (p : Profile) (b : Listing) (e : BuildAnswers p b) (s : b.verdict ≡ success) (k : ℕ) → k < built_count p
@@ -134,7 +134,7 @@ pub pps_either_way : PpsEitherWay
 pps_either_way p b c e s f t k h limited x m a d =
     let l = built_list p b e s in
     let within : k < built_count p = subst (λ (y : Words). k < y.count) l h in
-    let names = decoded_is _ _ (subst (λ (y : Words). DecodeAnswers (get_or y.words k 0) (Known (object.Pps limited x m a))) l d)
+    let names = decoded_is _ _ (subst (λ (y : Words). DecodeAnswers (get_or y.words k 0) (Some (object.Pps limited x m a))) l d)
     ∙ known p (built_clear p b e s) k within in
     word_built (asked_for_down p) c f t k within
     ∙ same_supply p limited x m a (eqb k 0) (get_or (slots p.max.0) k Nothing) names ∙ sym (word_built p b e s k within)

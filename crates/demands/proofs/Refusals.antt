@@ -1,5 +1,6 @@
 -- Proves the claims of specs/Refusals.antt: a verdict that is the first of a table answers that table, and each call gives such a verdict.
 -- Assumes nothing.
+use Rattle.std.specs.Prelude.{Option}
 use mathlib.Core.Path.{◌≡◌, refl, sym, ap, ◌∙◌, subst}
 use mathlib.Core.Bool.{Bool, cond}
 use mathlib.Core.List.{List}
@@ -10,7 +11,6 @@ use Rattle.verdicts.proofs.First.{Telling, telling_numbered, passes_told, refuse
 use borrow.Author.Tests.{eq-eqb, ne_eqb}
 use Rattle.objects.specs.declared.Side.{Side}
 use Rattle.objects.specs.declared.Side.TheVariants.{Source}
-use Rattle.objects.specs.declared.Encoded.{Encoded}
 use Rattle.lists.specs.declared.Shaped.{Shaped}
 use Rattle.lists.specs.declared.Reading.{Reading}
 use Rattle.lists.specs.declared.Listing.{Listing}
@@ -81,7 +81,7 @@ read_refusals l r e = (
 )
 
 -- writing, in whatever form the objects are, by what each is written as
-pub writing_refused_lem : (side : Side) (made : ℕ → Encoded) (n : ℕ) (r : Listing) → r ≡ written_from side made n
+pub writing_refused_lem : (side : Side) (made : ℕ → Option ℕ) (n : ℕ) (r : Listing) → r ≡ written_from side made n
     → Answers r.verdict (writing_refusals side made n) × ((r.verdict ≡ success → ⊥) → r.list ≡ no_words)
 writing_refused_lem side made n r e =
     let v = ap (λ (x : Listing). x.verdict) e in (

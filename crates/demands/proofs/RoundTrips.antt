@@ -1,9 +1,8 @@
 -- Proves the claims of specs/RoundTrips.antt.
 -- Assumes nothing.
+use Rattle.std.specs.Prelude.{Some}
 use mathlib.Core.Path.{◌≡◌, sym, ap, ◌∙◌}
 use Rattle.verdicts.specs.declared.Verdict.{Verdict}
-use Rattle.objects.specs.declared.Decoded.TheVariants.{Known}
-use Rattle.objects.specs.declared.Encoded.TheVariants.{Word}
 use Rattle.objects.proofs.Saying.{decoded_is, decoded_for, encoded_is}
 use Rattle.objects.proofs.RoundTrip as one_word
 use Rattle.objects.specs.declared.Side.TheVariants.{Source}
@@ -21,10 +20,10 @@ use Rattle.demands.specs.RoundTrips.{DecodeThenEncode, EncodeThenDecode, ReadThe
 -- ---- one word
 
 pub decode_then_encode : DecodeThenEncode
-decode_then_encode side w h o d first r e q = encoded_is o e q ∙ one_word.decode_encode w h first side o (sym (decoded_for side w (Known o) d)) (sym r)
+decode_then_encode side w h o d first r e q = encoded_is o e q ∙ one_word.decode_encode w h first side o (sym (decoded_for side w (Some o) d)) (sym r)
 
 pub encode_then_decode : EncodeThenDecode
-encode_then_decode o w e d q = decoded_is w d q ∙ one_word.encode_decode o w (sym (encoded_is o (Word w) e))
+encode_then_decode o w e d q = decoded_is w d q ∙ one_word.encode_decode o w (sym (encoded_is o (Some w) e))
 
 -- ---- a list
 

@@ -1,5 +1,7 @@
 -- Proves the claims of specs/RuleLists.antt on the list.
 -- Assumes nothing.
+use Rattle.std.specs.Prelude.{Option, Some, None}
+use Rattle.objects.specs.declared.Object.{Object}
 use mathlib.Core.Path.{◌≡◌, refl, sym, ap, ◌∙◌, subst}
 use mathlib.Core.Bool.{Bool, true, false, ◌&&◌, and-eq-true_iff, true≢false}
 use mathlib.Core.List.{List, [], ◌∷◌, ◌++◌}
@@ -9,8 +11,6 @@ use borrow.Author.Tests.{leb-true, eqb-true}
 use Rattle.verdicts.specs.declared.Verdict.{Verdict}
 use Rattle.verdicts.specs.Refusals.{Refusal, refusal, first_of, verdict, success, verdict_of, NoneApply}
 use Rattle.verdicts.proofs.First.{onward, all_missed, is_number}
-use Rattle.objects.specs.declared.Decoded.{Decoded}
-use Rattle.objects.specs.declared.Decoded.TheVariants.{Known, NotAllowed}
 use Rattle.lists.specs.Shape.{shape_refusals}
 use Rattle.lists.proofs.Shapes.{count_low, count_high}
 use Rattle.rules.specs.Building.{built_words}
@@ -53,9 +53,9 @@ own_after xs ys x t f =
     let e : verdict_of (xs ++ ys) ≡ verdict_of ys = onward verdict success xs ys ∙ all_missed verdict (verdict_of ys) xs x in
     subst OwnRefusal (sym e) (own_rows ys t (λ z. f (ap (λ (v : Verdict). v.number) e ∙ z)))
 
-own_named : (d : Decoded) (w : ℕ) → all_own (named_refusals d w) ≡ true
-own_named (Known o) w = refl
-own_named NotAllowed w = refl
+own_named : (d : Option Object) (w : ℕ) → all_own (named_refusals d w) ≡ true
+own_named (Some o) w = refl
+own_named None w = refl
 
 -- ---- the rule list
 

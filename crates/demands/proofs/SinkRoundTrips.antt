@@ -1,5 +1,7 @@
 -- Proves the claims of specs/SinkRoundTrips.antt.
 -- Assumes nothing.
+use Rattle.std.specs.Prelude.{Option, Some}
+use Rattle.objects.specs.declared.Object.{Object}
 use mathlib.Core.Path.{◌≡◌, sym, ap, ◌∙◌}
 use Prim.Native.Nat.{ℕ, ◌<◌}
 use lib.Dec.{eqb}
@@ -7,9 +9,6 @@ use lib.ListN.{get_or}
 use Rattle.verdicts.specs.declared.Verdict.{Verdict}
 use Rattle.verdicts.specs.Refusals.{NoneApply}
 use Rattle.objects.specs.declared.Side.TheVariants.{Sink}
-use Rattle.objects.specs.declared.Decoded.{Decoded}
-use Rattle.objects.specs.declared.Decoded.TheVariants as decoded
-use Rattle.objects.specs.declared.Encoded.TheVariants.{Word}
 use Rattle.objects.specs.Decode.{decode_of, decode_for}
 use Rattle.objects.proofs.Saying.{decoded_for}
 use Rattle.objects.proofs.Sides.{known_for}
@@ -22,7 +21,6 @@ use Rattle.lists.proofs.Shapes.{count_high, none_of}
 use Rattle.lists.proofs.Readings.{read_passes}
 use Rattle.lists.proofs.Writings.{write_passes, write_clear}
 use Rattle.lists.proofs.RoundTrips.{word_known, word_clear}
-use Rattle.sinks.specs.declared.SinkDecoded.TheVariants.{Known}
 use Rattle.sinks.specs.declared.SinkPlace.{SinkPlace}
 use Rattle.sinks.specs.declared.SinkReading.{SinkReading}
 use Rattle.sinks.specs.SinkWords.{as_object}
@@ -42,10 +40,10 @@ use Rattle.demands.proofs.FlatRoundTrips.{flat_read_then_write, flat_write_then_
 pub sink_decode_then_encode : SinkDecodeThenEncode
 sink_decode_then_encode w h q d first c o s e f =
     sink_encoded_is o e f
-    ∙ sinks.sink_decode_encode w first q (sym (decoded_for Sink w (decoded.Known q) d)) (sym c) h o (sym (sink_decoded_is w (Known o) s))
+    ∙ sinks.sink_decode_encode w first q (sym (decoded_for Sink w (Some q) d)) (sym c) h o (sym (sink_decoded_is w (Some o) s))
 
 pub sink_encode_then_decode : SinkEncodeThenDecode
-sink_encode_then_decode o w e d q = sink_decoded_is w d q ∙ sinks.sink_encode_decode o w (sym (sink_encoded_is o (Word w) e))
+sink_encode_then_decode o w e d q = sink_decoded_is w d q ∙ sinks.sink_encode_decode o w (sym (sink_encoded_is o (Some w) e))
 
 -- ---- a list
 
@@ -75,7 +73,7 @@ word_flat l x k h =
     let w = get_or l.words k 0 in
     let q = object_of (decode_for Sink w) in
     let known = word_known Sink l x k h in
-    ap (λ (d : Decoded). flat_of (object_of d)) (known_for Sink (decode_of w) q known)
+    ap (λ (d : Option Object). flat_of (object_of d)) (known_for Sink (decode_of w) q known)
     ∙ sym (ap flat_of (sinks.sink_as_object w (eqb k 0) q known (word_clear Sink l x k h) (sink_place w).object (sinks.sink_word_known l x k h)))
 
 pub arin_sink_reads_sinks : ArinSinkReadsSinks

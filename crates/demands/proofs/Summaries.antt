@@ -1,5 +1,6 @@
 -- Proves the claims of specs/Summaries.antt, from the laws of `summaries` on the definitions that the contracts cite.
 -- Assumes nothing.
+use Rattle.std.specs.Prelude.{Some}
 use mathlib.Core.Path.{◌≡◌, refl, sym, ap, ◌∙◌, subst}
 use mathlib.Core.Bool.{Bool, true, false}
 use mathlib.Core.Logic.{◌⊎◌, inl, inr}
@@ -13,7 +14,6 @@ use Rattle.verdicts.specs.Refusals.{verdict, success, NoneApply}
 use Rattle.steps.specs.Units.{mv25, ma50}
 use Rattle.objects.specs.declared.Object.{Object}
 use Rattle.objects.specs.declared.Object.TheVariants as object
-use Rattle.objects.specs.declared.Decoded.TheVariants.{Known}
 use Rattle.objects.proofs.Saying.{decoded_is}
 use Rattle.lists.specs.declared.Words.{Words}
 use Rattle.lists.specs.declared.Listing.{Listing}
@@ -69,7 +69,7 @@ summary_row_by_row l e r is =
       ap (λ (x : Summarized). x.verdict) m,
       subst (λ (x : Summarized). SaysOf l x.summary) (sym m) (record {
         count = refl;
-        row = λ position inside o d. row_at l good position inside ∙ ap limits_in (sym (decoded_is _ (Known o) d));
+        row = λ position inside o d. row_at l good position inside ∙ ap limits_in (sym (decoded_is _ (Some o) d));
         past = λ k h below. at_blank (limits_at l.words) no_limits [] l.count k h below;
         seven = seven_long (limits_at l.words) no_limits l.count;
       }),
@@ -91,7 +91,7 @@ by_kind_lem (object.Avs p l h) w = inr (record { decoded = record { position = _
 pub decoded_for_the_kind : DecodedForTheKind
 decoded_for_the_kind l w counted inside o d t is =
     subst (λ (x : TakenRequest). (IsBattery o × (x ≡ Battery (position_of w) (mismatch_of w))) ⊎ DecodedAs o w x)
-    (sym (is ∙ of_object_lem l w counted inside o (sym (decoded_is _ (Known o) d)))) (by_kind_lem o w)
+    (sym (is ∙ of_object_lem l w counted inside o (sym (decoded_is _ (Some o) d)))) (by_kind_lem o w)
 
 flat_by_kind : (o : Object) (w : ℕ) → flat_taken_by (quick_of (taken_apart o w)) ≡ taken_as (flat_for o w)
 unfolding quick_of taken_apart flat_request_of
@@ -103,7 +103,7 @@ flat_by_kind (object.Avs p l h) w = refl
 
 pub arin_decoded_for_the_kind : ArinDecodedForTheKind
 arin_decoded_for_the_kind l w counted inside o d t is =
-    let all = is ∙ flat_taken l w ∙ ap flat_taken_by (of_object_lem l w counted inside o (sym (decoded_is _ (Known o) d))) ∙ flat_by_kind o w in
+    let all = is ∙ flat_taken l w ∙ ap flat_taken_by (of_object_lem l w counted inside o (sym (decoded_is _ (Some o) d))) ∙ flat_by_kind o w in
     (ap (λ (x : FlatTaken). x.verdict) all, ap (λ (x : FlatTaken). x.request) all)
 
 -- ---- agreement
@@ -118,7 +118,7 @@ summary_agrees l w e m is a t r v f g = f ∙ from_own l e m is a ∙ alike l (s
 
 pub taken_apart_agrees : TakenApartAgrees
 taken_apart_agrees l w e m is inside o d a t r v f g =
-    f ∙ from_own l e m is a ∙ placed_alike l (shaped l e) w o inside (sym (decoded_is _ (Known o) d)) a t ∙ sym g
+    f ∙ from_own l e m is a ∙ placed_alike l (shaped l e) w o inside (sym (decoded_is _ (Some o) d)) a t ∙ sym g
 
 pub outside_is_20 : OutsideIs20
 outside_is_20 l w e outside = (

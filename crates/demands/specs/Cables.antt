@@ -4,15 +4,13 @@
 -- theorem of its name in small letters in proofs/Cables.antt (docs/STATEMENT.md, "The builder", "The rule check" and "The listing program"). Words are looked
 -- up from 0 on.
 -- Assumes nothing.
-use Rattle.std.specs.Prelude.{◌≡◌, true, not, List, ◌↔◌, ◌⊎◌, ℕ, ◌+◌, ◌*◌, ◌≤◌, ◌<◌, min, get_or}
+use Rattle.std.specs.Prelude.{◌≡◌, true, not, List, ◌↔◌, ◌⊎◌, ℕ, ◌+◌, ◌*◌, ◌≤◌, ◌<◌, min, get_or, Option, Some, None}
 use Rattle.verdicts.specs.Refusals.{success}
 use Rattle.steps.specs.Ranges.{within}
 use Rattle.steps.specs.Units.{ma10, ma50}
 use Rattle.steps.specs.declared.Ma10.{Ma10}
 use Rattle.objects.specs.declared.Object.{Object}
 use Rattle.objects.specs.declared.Object.TheVariants.{Fixed, Battery, Variable, Pps, Avs}
-use Rattle.objects.specs.declared.Decoded.{Decoded}
-use Rattle.objects.specs.declared.Decoded.TheVariants.{Known, NotAllowed}
 use Rattle.lists.specs.declared.Words.{Words}
 use Rattle.lists.specs.declared.Listing.{Listing}
 use Rattle.rules.specs.declared.Profile.{Profile}
@@ -35,13 +33,13 @@ CarriedBy cable (Pps l x m a) = ma50 a ≤ ma10 cable
 CarriedBy cable (Avs p l h) = (ma10 l ≤ ma10 cable) × (ma10 h ≤ ma10 cable)
 
 -- and the same of what a word is decoded to
-abbrev pub Carried : Ma10 → Decoded → Type 0
-Carried cable (Known o) = CarriedBy cable o
-Carried cable NotAllowed = ⊥
+abbrev pub Carried : Ma10 → Option Object → Type 0
+Carried cable (Some o) = CarriedBy cable o
+Carried cable None = ⊥
 
 -- of every word of a list
 abbrev pub EachCarried : Ma10 → Words → Type 0
-EachCarried cable l = (k : ℕ) → k < l.count → (d : Decoded) → DecodeAnswers (get_or l.words k 0) d → Carried cable d
+EachCarried cable l = (k : ℕ) → k < l.count → (d : Option Object) → DecodeAnswers (get_or l.words k 0) d → Carried cable d
 
 abbrev pub BuiltWithinCable : Type 0
 BuiltWithinCable = (p : Profile) (b : Listing) → BuildAnswers p b → b.verdict ≡ success → EachCarried p.cable b.list

@@ -4,7 +4,7 @@
 -- lent rows, by the names that are their clauses (crates/board/specs/Promises.antt); where a claim is over a definition that a contract cites,
 -- the head of its file says so.
 -- Assumes nothing.
-use Rattle.std.specs.Prelude.{Bool, ℕ}
+use Rattle.std.specs.Prelude.{Bool, ℕ, Option}
 use Rattle.verdicts.specs.declared.Verdict.{Verdict}
 use Rattle.steps.specs.declared.Mv20.{Mv20}
 use Rattle.steps.specs.declared.InMv20.{InMv20}
@@ -38,8 +38,6 @@ use Rattle.steps.proofs.Ma10.to_ma50.Reads as ma10_to_ma50
 use Rattle.steps.proofs.Ma50.to_ma10.Reads as ma50_to_ma10
 use Rattle.objects.specs.declared.Side.{Side}
 use Rattle.objects.specs.declared.Object.{Object}
-use Rattle.objects.specs.declared.Decoded.{Decoded}
-use Rattle.objects.specs.declared.Encoded.{Encoded}
 use Rattle.objects.proofs.is_kind.Reads as is_kind
 use Rattle.objects.proofs.decode.Reads as decode
 use Rattle.objects.proofs.decode_for.Reads as decode_for
@@ -68,7 +66,6 @@ use Rattle.rules.proofs.bad_cable.Reads as bad_cable
 use Rattle.rules.proofs.default_profile.Reads as default_profile
 use Rattle.rules.proofs.build.Reads as build
 use Rattle.rules.proofs.check.Reads as check
-use Rattle.rules.specs.declared.Placed.{Placed}
 use Rattle.rules.proofs.word_at.Reads as word_at
 use Rattle.requests.specs.declared.Asked.{Asked}
 use Rattle.requests.proofs.position.Reads as position
@@ -150,27 +147,27 @@ Ma50ToMa10Answers v r = ma50_to_ma10.Post tt (v, tt) r (v, tt)
 abbrev pub IsKindAnswers : ℕ → ℕ → Bool → Type 0
 IsKindAnswers w kind r = is_kind.Post tt (w, (kind, tt)) r (w, (kind, tt))
 
-abbrev pub DecodeAnswers : ℕ → Decoded → Type 0
+abbrev pub DecodeAnswers : ℕ → Option Object → Type 0
 DecodeAnswers w r = decode.Post tt (w, tt) r (w, tt)
 
-abbrev pub DecodeForAnswers : Side → ℕ → Decoded → Type 0
+abbrev pub DecodeForAnswers : Side → ℕ → Option Object → Type 0
 DecodeForAnswers side w r = decode_for.Post tt (side, (w, tt)) r (side, (w, tt))
 
 abbrev pub ReservedAnswers : Side → Object → Bool → ℕ → Bool → Type 0
 ReservedAnswers side o first w r = reserved_bit_set.Post tt (side, (o, (first, (w, tt)))) r (side, (o, (first, (w, tt))))
 
-abbrev pub EncodeAnswers : Object → Encoded → Type 0
+abbrev pub EncodeAnswers : Object → Option ℕ → Type 0
 EncodeAnswers o r = encode.Post tt (o, tt) r (o, tt)
 
-abbrev pub FixedWordAnswers : ℕ → ℕ → Mv50 → Ma10 → Encoded → Type 0
+abbrev pub FixedWordAnswers : ℕ → ℕ → Mv50 → Ma10 → Option ℕ → Type 0
 FixedWordAnswers flags peak volts current r =
     fixed_word.Post tt (flags, (peak, (volts, (current, tt)))) r (flags, (peak, (volts, (current, tt))))
 
-abbrev pub PpsWordAnswers : ℕ → Mv100 → Mv100 → Ma50 → Encoded → Type 0
+abbrev pub PpsWordAnswers : ℕ → Mv100 → Mv100 → Ma50 → Option ℕ → Type 0
 PpsWordAnswers limited max min current r =
     pps_word.Post tt (limited, (max, (min, (current, tt)))) r (limited, (max, (min, (current, tt))))
 
-abbrev pub AvsWordAnswers : ℕ → Ma10 → Ma10 → Encoded → Type 0
+abbrev pub AvsWordAnswers : ℕ → Ma10 → Ma10 → Option ℕ → Type 0
 AvsWordAnswers peak low high r = avs_word.Post tt (peak, (low, (high, tt))) r (peak, (low, (high, tt)))
 
 -- ---- lists
@@ -213,7 +210,7 @@ BuildAnswers p r = build.Post tt (p, tt) r (p, tt)
 abbrev pub CheckAnswers : Profile → Words → Verdict → Type 0
 CheckAnswers p l r = check.Post tt (p, (l, tt)) r (p, (l, tt))
 
-abbrev pub WordAtAnswers : Profile → ℕ → Placed → Type 0
+abbrev pub WordAtAnswers : Profile → ℕ → Option ℕ → Type 0
 WordAtAnswers p place r = word_at.Post tt (p, (place, tt)) r (p, (place, tt))
 
 -- ---- requests

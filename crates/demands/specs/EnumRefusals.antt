@@ -2,7 +2,7 @@
 -- is that refusal exactly where it applies, and on a refusal all else is zero. `conversions` proves `Conversions`, and each other claim is proved
 -- by the theorem of its name in small letters, in proofs/EnumRefusals.antt (docs/STATEMENT.md, "Steps of measure" and "Refusal numbers").
 -- Assumes nothing.
-use Rattle.std.specs.Prelude.{◌≡◌, Bool, true, false, ◌↔◌, ◌⊎◌, ℕ, ◌*◌, ◌<◌}
+use Rattle.std.specs.Prelude.{◌≡◌, Bool, true, false, ◌↔◌, ◌⊎◌, ℕ, ◌*◌, ◌<◌, Option}
 use Rattle.steps.specs.declared.Mv20.{Mv20}
 use Rattle.steps.specs.declared.InMv20.{InMv20}
 use Rattle.steps.specs.declared.Mv25.{Mv25}
@@ -20,18 +20,14 @@ use Rattle.steps.specs.Measure.{mv20_says, mv25_says, mv50_says, mv100_says, ma1
 use Rattle.objects.specs.declared.Side.{Side}
 use Rattle.objects.specs.declared.Object.{Object}
 use Rattle.objects.specs.declared.Object.TheVariants.{Fixed, Pps, Avs}
-use Rattle.objects.specs.declared.Decoded.{Decoded}
-use Rattle.objects.specs.declared.Encoded.{Encoded}
 use Rattle.objects.specs.Bits.{bits}
 use Rattle.objects.specs.Layout.{all_fit}
 use Rattle.objects.specs.Decode.{kind_bits, not_allowed_for, zero_object, decoded_says}
 use Rattle.objects.specs.Encode.{fields_of, encoded_says}
 use Rattle.rules.specs.declared.Profile.{Profile}
-use Rattle.rules.specs.declared.Placed.{Placed}
 use Rattle.rules.specs.Building.{built_of}
 use Rattle.rules.specs.Placing.{placed_says}
 use Rattle.flat.specs.declared.FlatObject.{FlatObject}
-use Rattle.flat.specs.declared.Raised.{Raised}
 use Rattle.flat.specs.Flat.{raised_says}
 use Rattle.demands.specs.CallContracts.{Mv20ToMv25Answers, Mv20ToMv50Answers, Mv20ToMv100Answers, Mv25ToMv20Answers, Mv25ToMv50Answers, Mv25ToMv100Answers, Mv50ToMv20Answers, Mv50ToMv25Answers, Mv50ToMv100Answers, Mv100ToMv20Answers, Mv100ToMv25Answers, Mv100ToMv50Answers, Ma10ToMa50Answers, Ma50ToMa10Answers}
 use Rattle.demands.specs.CallContracts.{DecodeForAnswers, DecodeAnswers, EncodeAnswers, FixedWordAnswers, PpsWordAnswers, AvsWordAnswers, WordAtAnswers}
@@ -76,44 +72,44 @@ pub record OneRefusal {A : Type 0} (none : A) (n : ℕ) (Applies : Type 0) (said
 -- 12 exactly for the kinds 1101b and 1111b
 abbrev pub Decode12 : Type 0
 Decode12 =
-    (w : ℕ) (r : Decoded) → DecodeAnswers w r
+    (w : ℕ) (r : Option Object) → DecodeAnswers w r
     → OneRefusal zero_object 12 ((bits w 31 30 ≡ 3) × ((bits w 29 28 ≡ 1) ⊎ (bits w 29 28 ≡ 3))) (decoded_says r)
 
 -- of either side: 12 exactly for the kinds that it does not have
 abbrev pub DecodeFor12 : Type 0
 DecodeFor12 =
-    (side : Side) (w : ℕ) (r : Decoded) → DecodeForAnswers side w r
+    (side : Side) (w : ℕ) (r : Option Object) → DecodeForAnswers side w r
     → OneRefusal zero_object 12 (not_allowed_for side (kind_bits w) ≡ true) (decoded_says r)
 
 -- 7 exactly where a field does not fit its bits
 abbrev pub Encode7 : Type 0
-Encode7 = (o : Object) (r : Encoded) → EncodeAnswers o r → OneRefusal 0 7 (all_fit (fields_of o) ≡ false) (encoded_says r)
+Encode7 = (o : Object) (r : Option ℕ) → EncodeAnswers o r → OneRefusal 0 7 (all_fit (fields_of o) ≡ false) (encoded_says r)
 
 abbrev pub FixedWord7 : Type 0
 FixedWord7 =
-    (flags peak : ℕ) (volts : Mv50) (current : Ma10) (r : Encoded) → FixedWordAnswers flags peak volts current r
+    (flags peak : ℕ) (volts : Mv50) (current : Ma10) (r : Option ℕ) → FixedWordAnswers flags peak volts current r
     → OneRefusal 0 7 (all_fit (fields_of (Fixed flags peak volts current)) ≡ false) (encoded_says r)
 
 abbrev pub PpsWord7 : Type 0
 PpsWord7 =
-    (limited : ℕ) (max min : Mv100) (current : Ma50) (r : Encoded) → PpsWordAnswers limited max min current r
+    (limited : ℕ) (max min : Mv100) (current : Ma50) (r : Option ℕ) → PpsWordAnswers limited max min current r
     → OneRefusal 0 7 (all_fit (fields_of (Pps limited max min current)) ≡ false) (encoded_says r)
 
 abbrev pub AvsWord7 : Type 0
 AvsWord7 =
-    (peak : ℕ) (low high : Ma10) (r : Encoded) → AvsWordAnswers peak low high r
+    (peak : ℕ) (low high : Ma10) (r : Option ℕ) → AvsWordAnswers peak low high r
     → OneRefusal 0 7 (all_fit (fields_of (Avs peak low high)) ≡ false) (encoded_says r)
 
 -- ---- flat
 
 -- 12 exactly for a kind number above 4
 abbrev pub Raise12 : Type 0
-Raise12 = (x : FlatObject) (r : Raised) → RaiseAnswers x r → OneRefusal zero_object 12 (4 < x.kind) (raised_says r)
+Raise12 = (x : FlatObject) (r : Option Object) → RaiseAnswers x r → OneRefusal zero_object 12 (4 < x.kind) (raised_says r)
 
 -- ---- rules
 
 -- 20 exactly where the list that is built has no such place; places count from 1
 abbrev pub WordAt20 : Type 0
 WordAt20 =
-    (p : Profile) (place : ℕ) (r : Placed) → WordAtAnswers p place r
+    (p : Profile) (place : ℕ) (r : Option ℕ) → WordAtAnswers p place r
     → OneRefusal 0 20 (within 1 (built_of p).list.count place ≡ false) (placed_says r)

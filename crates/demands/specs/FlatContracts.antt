@@ -1,7 +1,7 @@
 -- The contract of each call over flat objects, the form in which C takes objects, and of each call on lists under its C name. As in
 -- CallContracts each name is the clause of the source itself. Nothing is claimed here.
 -- Assumes nothing.
-use Rattle.std.specs.Prelude.{ℕ}
+use Rattle.std.specs.Prelude.{ℕ, Option}
 use Rattle.verdicts.specs.declared.Verdict.{Verdict}
 use Rattle.objects.specs.declared.Side.{Side}
 use Rattle.objects.specs.declared.Object.{Object}
@@ -12,7 +12,6 @@ use Rattle.rules.specs.declared.Profiled.{Profiled}
 use Rattle.flat.specs.declared.FlatObject.{FlatObject}
 use Rattle.flat.specs.declared.FlatObjects.{FlatObjects}
 use Rattle.flat.specs.declared.FlatReading.{FlatReading}
-use Rattle.flat.specs.declared.Raised.{Raised}
 use Rattle.flat.proofs.flatten.Reads as flatten
 use Rattle.flat.proofs.raise.Reads as raise
 use Rattle.flat.proofs.flat_read_for.Reads as flat_read_for
@@ -32,7 +31,7 @@ use Rattle.board.proofs.arin_answer.Reads as arin_answer
 abbrev pub FlattenAnswers : Object → FlatObject → Type 0
 FlattenAnswers o r = flatten.Post tt (o, tt) r (o, tt)
 
-abbrev pub RaiseAnswers : FlatObject → Raised → Type 0
+abbrev pub RaiseAnswers : FlatObject → Option Object → Type 0
 RaiseAnswers x r = raise.Post tt (x, tt) r (x, tt)
 
 abbrev pub FlatReadForAnswers : Side → Words → FlatReading → Type 0

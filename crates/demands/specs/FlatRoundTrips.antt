@@ -2,7 +2,7 @@
 -- A list comes back as it was up to its count, and zero past it. Each claim is proved by the theorem of its name in small letters in
 -- proofs/FlatRoundTrips.antt.
 -- Assumes nothing.
-use Rattle.std.specs.Prelude.{◌≡◌, ℕ, ◌≤◌, get_or}
+use Rattle.std.specs.Prelude.{◌≡◌, ℕ, ◌≤◌, get_or, Option, Some}
 use Rattle.objects.specs.declared.Side.{Side}
 use Rattle.objects.specs.declared.Side.TheVariants.{Source}
 use Rattle.verdicts.specs.Refusals.{success}
@@ -13,8 +13,6 @@ use Rattle.lists.specs.Kept.{kept_words, Words32}
 use Rattle.flat.specs.declared.FlatObject.{FlatObject}
 use Rattle.flat.specs.declared.FlatObjects.{FlatObjects}
 use Rattle.flat.specs.declared.FlatReading.{FlatReading}
-use Rattle.flat.specs.declared.Raised.{Raised}
-use Rattle.flat.specs.declared.Raised.TheVariants.{Known}
 use Rattle.flat.specs.Flat.{own_fields}
 use Rattle.flat.specs.Reading.{empty_flat}
 use Rattle.flat.specs.Kept.{kept_flat}
@@ -25,12 +23,12 @@ use Rattle.demands.specs.FlatContracts.{FlatReadForAnswers, FlatWriteForAnswers,
 
 -- what was flattened is raised to the same object
 abbrev pub FlattenThenRaise : Type 0
-FlattenThenRaise = (o : Object) (x : FlatObject) → FlattenAnswers o x → (r : Raised) → RaiseAnswers x r → r ≡ Known o
+FlattenThenRaise = (o : Object) (x : FlatObject) → FlattenAnswers o x → (r : Option Object) → RaiseAnswers x r → r ≡ Some o
 
 -- what was raised is flattened to the same flat object, where the fields that its kind does not have are zero
 abbrev pub RaiseThenFlatten : Type 0
 RaiseThenFlatten =
-    (x : FlatObject) → own_fields x ≡ x → (o : Object) → RaiseAnswers x (Known o) → (y : FlatObject) → FlattenAnswers o y → y ≡ x
+    (x : FlatObject) → own_fields x ≡ x → (o : Object) → RaiseAnswers x (Some o) → (y : FlatObject) → FlattenAnswers o y → y ≡ x
 
 -- ---- a list
 

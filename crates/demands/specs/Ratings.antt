@@ -2,7 +2,7 @@
 -- is less than one step above; programmable supplies are the same with either. The list of a shared port is the one that is built with down. Each
 -- claim is proved by the theorem of its name in small letters in proofs/Ratings.antt (docs/STATEMENT.md, "The profile", "The builder" and "Rows").
 -- Assumes nothing.
-use Rattle.std.specs.Prelude.{◌≡◌, cond, ◌&&◌, List, ℕ, ◌+◌, ◌*◌, ◌≤◌, ◌<◌, eqb, get_or}
+use Rattle.std.specs.Prelude.{◌≡◌, cond, ◌&&◌, List, ℕ, ◌+◌, ◌*◌, ◌≤◌, ◌<◌, eqb, get_or, Some}
 use Rattle.verdicts.specs.declared.Verdict.{Verdict}
 use Rattle.verdicts.specs.Refusals.{success}
 use Rattle.steps.specs.Units.{mv50, ma10, mw500}
@@ -12,7 +12,6 @@ use Rattle.steps.specs.declared.Ma10.{Ma10}
 use Rattle.steps.specs.declared.Ma50.{Ma50}
 use Rattle.objects.specs.declared.Object.{Object}
 use Rattle.objects.specs.declared.Object.TheVariants.{Fixed, Battery, Variable, Pps, Avs}
-use Rattle.objects.specs.declared.Decoded.TheVariants.{Known}
 use Rattle.lists.specs.declared.Listing.{Listing}
 use Rattle.rules.specs.declared.Profile.{Profile}
 use Rattle.rules.specs.declared.Profiled.{Profiled}
@@ -78,7 +77,7 @@ abbrev pub PpsEitherWay : Type 0
 PpsEitherWay =
     (p : Profile) (b c : Listing) → BuildAnswers p b → b.verdict ≡ success → BuildAnswers (asked_for_down p) c → c.verdict ≡ success
     → (k : ℕ) → k < b.list.count → (limited : ℕ) (x m : Mv100) (a : Ma50)
-    → DecodeAnswers (get_or b.list.words k 0) (Known (Pps limited x m a)) → get_or c.list.words k 0 ≡ get_or b.list.words k 0
+    → DecodeAnswers (get_or b.list.words k 0) (Some (Pps limited x m a)) → get_or c.list.words k 0 ≡ get_or b.list.words k 0
 
 -- ---- the default profile
 

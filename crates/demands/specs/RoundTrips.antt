@@ -2,14 +2,10 @@
 -- A list comes back as it was up to its count, and zero past it. Each claim is proved by the theorem of its name in small letters
 -- (`decode_then_encode` is `DecodeThenEncode`) in proofs/RoundTrips.antt.
 -- Assumes nothing.
-use Rattle.std.specs.Prelude.{◌≡◌, Bool, false, ℕ, ◌^◌, ◌<◌}
+use Rattle.std.specs.Prelude.{◌≡◌, Bool, false, ℕ, ◌^◌, ◌<◌, Option, Some}
 use Rattle.verdicts.specs.Refusals.{success}
 use Rattle.objects.specs.declared.Side.{Side}
 use Rattle.objects.specs.declared.Object.{Object}
-use Rattle.objects.specs.declared.Decoded.{Decoded}
-use Rattle.objects.specs.declared.Decoded.TheVariants.{Known}
-use Rattle.objects.specs.declared.Encoded.{Encoded}
-use Rattle.objects.specs.declared.Encoded.TheVariants.{Word}
 use Rattle.lists.specs.declared.Words.{Words}
 use Rattle.lists.specs.declared.Objects.{Objects}
 use Rattle.lists.specs.declared.Reading.{Reading}
@@ -22,12 +18,12 @@ use Rattle.demands.specs.CallContracts.{DecodeForAnswers, DecodeAnswers, Reserve
 -- a word of a kind that its side has, with no reserved bit set, decodes to an object, and that object encodes back to the word
 abbrev pub DecodeThenEncode : Type 0
 DecodeThenEncode =
-    (side : Side) (w : ℕ) → w < 2 ^ 32 → (o : Object) → DecodeForAnswers side w (Known o)
-    → (first : Bool) → ReservedAnswers side o first w false → (e : Encoded) → EncodeAnswers o e → e ≡ Word w
+    (side : Side) (w : ℕ) → w < 2 ^ 32 → (o : Object) → DecodeForAnswers side w (Some o)
+    → (first : Bool) → ReservedAnswers side o first w false → (e : Option ℕ) → EncodeAnswers o e → e ≡ Some w
 
 -- an object whose fields fit encodes to a word, and that word decodes back to the object
 abbrev pub EncodeThenDecode : Type 0
-EncodeThenDecode = (o : Object) (w : ℕ) → EncodeAnswers o (Word w) → (d : Decoded) → DecodeAnswers w d → d ≡ Known o
+EncodeThenDecode = (o : Object) (w : ℕ) → EncodeAnswers o (Some w) → (d : Option Object) → DecodeAnswers w d → d ≡ Some o
 
 -- ---- a list
 

@@ -1,14 +1,12 @@
 -- The contract of each call over sink lists, and of each of them under its C name. As in CallContracts each name is the clause of the source
 -- itself. Nothing is claimed here.
 -- Assumes nothing.
-use Rattle.std.specs.Prelude.{ℕ}
+use Rattle.std.specs.Prelude.{ℕ, Option}
 use Rattle.verdicts.specs.declared.Verdict.{Verdict}
 use Rattle.steps.specs.declared.HalfWatts.{HalfWatts}
-use Rattle.objects.specs.declared.Encoded.{Encoded}
 use Rattle.lists.specs.declared.Words.{Words}
 use Rattle.lists.specs.declared.Listing.{Listing}
 use Rattle.sinks.specs.declared.SinkObject.{SinkObject}
-use Rattle.sinks.specs.declared.SinkDecoded.{SinkDecoded}
 use Rattle.sinks.specs.declared.SinkObjects.{SinkObjects}
 use Rattle.sinks.specs.declared.SinkReading.{SinkReading}
 use Rattle.sinks.proofs.sink_decode.Reads as sink_decode
@@ -26,10 +24,10 @@ use Rattle.board.proofs.arin_sink_check.Reads as arin_sink_check
 
 -- ---- sinks
 
-abbrev pub SinkDecodeAnswers : ℕ → SinkDecoded → Type 0
+abbrev pub SinkDecodeAnswers : ℕ → Option SinkObject → Type 0
 SinkDecodeAnswers w r = sink_decode.Post tt (w, tt) r (w, tt)
 
-abbrev pub SinkEncodeAnswers : SinkObject → Encoded → Type 0
+abbrev pub SinkEncodeAnswers : SinkObject → Option ℕ → Type 0
 SinkEncodeAnswers o r = sink_encode.Post tt (o, tt) r (o, tt)
 
 abbrev pub SinkShapeAnswers : Words → Verdict → Type 0

@@ -2,12 +2,11 @@
 -- does. On a refusal all else in the answer is zero. Each claim is proved by the theorem of its name in small letters in
 -- proofs/SinkRefusals.antt; the order is in docs/STATEMENT.md, "Refusal numbers".
 -- Assumes nothing.
-use Rattle.std.specs.Prelude.{◌≡◌, true, false, ℕ}
+use Rattle.std.specs.Prelude.{◌≡◌, true, false, ℕ, Option}
 use Rattle.verdicts.specs.declared.Verdict.{Verdict}
 use Rattle.verdicts.specs.Refusals.{success}
 use Rattle.steps.specs.declared.HalfWatts.{HalfWatts}
 use Rattle.objects.specs.declared.Side.TheVariants.{Sink}
-use Rattle.objects.specs.declared.Encoded.{Encoded}
 use Rattle.objects.specs.Layout.{all_fit}
 use Rattle.objects.specs.Decode.{kind_bits, not_allowed_for}
 use Rattle.objects.specs.Encode.{encoded_says}
@@ -15,7 +14,6 @@ use Rattle.lists.specs.declared.Words.{Words}
 use Rattle.lists.specs.declared.Listing.{Listing}
 use Rattle.lists.specs.Writing.{no_words}
 use Rattle.sinks.specs.declared.SinkObject.{SinkObject}
-use Rattle.sinks.specs.declared.SinkDecoded.{SinkDecoded}
 use Rattle.sinks.specs.declared.SinkObjects.{SinkObjects}
 use Rattle.sinks.specs.declared.SinkReading.{SinkReading}
 use Rattle.sinks.specs.SinkWords.{zero_sink, sink_decoded_says, sink_fields_of}
@@ -34,11 +32,11 @@ use Rattle.demands.specs.EnumRefusals.{OneRefusal}
 -- 12 exactly for the kinds that no sink has
 abbrev pub SinkDecode12 : Type 0
 SinkDecode12 =
-    (w : ℕ) (r : SinkDecoded) → SinkDecodeAnswers w r → OneRefusal zero_sink 12 (not_allowed_for Sink (kind_bits w) ≡ true) (sink_decoded_says r)
+    (w : ℕ) (r : Option SinkObject) → SinkDecodeAnswers w r → OneRefusal zero_sink 12 (not_allowed_for Sink (kind_bits w) ≡ true) (sink_decoded_says r)
 
 -- 7 exactly where a field does not fit its bits
 abbrev pub SinkEncode7 : Type 0
-SinkEncode7 = (o : SinkObject) (r : Encoded) → SinkEncodeAnswers o r → OneRefusal 0 7 (all_fit (sink_fields_of o) ≡ false) (encoded_says r)
+SinkEncode7 = (o : SinkObject) (r : Option ℕ) → SinkEncodeAnswers o r → OneRefusal 0 7 (all_fit (sink_fields_of o) ≡ false) (encoded_says r)
 
 -- ---- a list
 

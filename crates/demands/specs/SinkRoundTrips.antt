@@ -2,19 +2,14 @@
 -- and that object the same word again, and the other way round; and so do lists. Each claim is proved by the theorem of its name in small
 -- letters in proofs/SinkRoundTrips.antt.
 -- Assumes nothing.
-use Rattle.std.specs.Prelude.{◌≡◌, Bool, false, ℕ, ◌^◌, ◌<◌, get_or}
+use Rattle.std.specs.Prelude.{◌≡◌, Bool, false, ℕ, ◌^◌, ◌<◌, get_or, Option, Some}
 use Rattle.verdicts.specs.Refusals.{success}
 use Rattle.objects.specs.declared.Side.TheVariants.{Sink}
 use Rattle.objects.specs.declared.Object.{Object}
-use Rattle.objects.specs.declared.Decoded.TheVariants as decoded
-use Rattle.objects.specs.declared.Encoded.{Encoded}
-use Rattle.objects.specs.declared.Encoded.TheVariants.{Word}
 use Rattle.lists.specs.declared.Words.{Words}
 use Rattle.lists.specs.declared.Listing.{Listing}
 use Rattle.lists.specs.Kept.{kept_words, Words32}
 use Rattle.sinks.specs.declared.SinkObject.{SinkObject}
-use Rattle.sinks.specs.declared.SinkDecoded.{SinkDecoded}
-use Rattle.sinks.specs.declared.SinkDecoded.TheVariants.{Known}
 use Rattle.sinks.specs.declared.SinkObjects.{SinkObjects}
 use Rattle.sinks.specs.declared.SinkReading.{SinkReading}
 use Rattle.sinks.specs.SinkWords.{as_object}
@@ -33,12 +28,12 @@ use Rattle.demands.specs.SinkContracts.{SinkDecodeAnswers, SinkEncodeAnswers, Si
 -- a word of a kind that a sink has, with no reserved bit set, has a sink object, and that object encodes back to the word
 abbrev pub SinkDecodeThenEncode : Type 0
 SinkDecodeThenEncode =
-    (w : ℕ) → w < 2 ^ 32 → (q : Object) → DecodeForAnswers Sink w (decoded.Known q) → (first : Bool) → ReservedAnswers Sink q first w false
-    → (o : SinkObject) → SinkDecodeAnswers w (Known o) → (e : Encoded) → SinkEncodeAnswers o e → e ≡ Word w
+    (w : ℕ) → w < 2 ^ 32 → (q : Object) → DecodeForAnswers Sink w (Some q) → (first : Bool) → ReservedAnswers Sink q first w false
+    → (o : SinkObject) → SinkDecodeAnswers w (Some o) → (e : Option ℕ) → SinkEncodeAnswers o e → e ≡ Some w
 
 -- a sink object whose fields fit encodes to a word, and that word decodes back to the object
 abbrev pub SinkEncodeThenDecode : Type 0
-SinkEncodeThenDecode = (o : SinkObject) (w : ℕ) → SinkEncodeAnswers o (Word w) → (d : SinkDecoded) → SinkDecodeAnswers w d → d ≡ Known o
+SinkEncodeThenDecode = (o : SinkObject) (w : ℕ) → SinkEncodeAnswers o (Some w) → (d : Option SinkObject) → SinkDecodeAnswers w d → d ≡ Some o
 
 -- ---- a list
 

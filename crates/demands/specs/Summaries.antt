@@ -4,7 +4,7 @@
 -- `limits_of o` (summaries, specs/Summaries) is the table of limits, object by object; `row_of s p` the row of position p, which counts from 1;
 -- `named_by l w` what the word that a request names stands for; `asked_as a` (summaries, specs/Taking) a decoded request as `take_apart` gives it.
 -- Assumes nothing.
-use Rattle.std.specs.Prelude.{◌≡◌, true, false, ◌↔◌, ◌⊎◌, ℕ, ◌-◌, ◌≤◌, ◌<◌, max, [], length, get_or}
+use Rattle.std.specs.Prelude.{◌≡◌, true, false, ◌↔◌, ◌⊎◌, ℕ, ◌-◌, ◌≤◌, ◌<◌, max, [], length, get_or, Some}
 use Rattle.verdicts.specs.declared.Verdict.{Verdict}
 use Rattle.verdicts.specs.Refusals.{verdict, success}
 use Rattle.steps.specs.Units.{ma50}
@@ -14,7 +14,6 @@ use Rattle.steps.specs.declared.Ma50.{Ma50}
 use Rattle.steps.specs.declared.Mw250.{Mw250}
 use Rattle.objects.specs.declared.Object.{Object}
 use Rattle.objects.specs.declared.Object.TheVariants as object
-use Rattle.objects.specs.declared.Decoded.TheVariants.{Known}
 use Rattle.lists.specs.declared.Words.{Words}
 use Rattle.lists.specs.declared.Listing.{Listing}
 use Rattle.lists.specs.Shape.{bad_count}
@@ -43,7 +42,7 @@ use Rattle.demands.specs.SummaryContracts.{SummarizeAnswers, TakeRequestAnswers,
 -- the count of the list, in each of the seven rows up to it the limits of the object that `decode` gives for the word, and zeros past it
 pub record SaysOf (l : Words) (s : Summary) : Type 0 where
   pub count : s.count ≡ l.count
-  pub row : (position : ℕ) → bad_position l.count position ≡ false → (o : Object) → DecodeAnswers (get_or l.words (position - 1) 0) (Known o)
+  pub row : (position : ℕ) → bad_position l.count position ≡ false → (o : Object) → DecodeAnswers (get_or l.words (position - 1) 0) (Some o)
       → row_of s position ≡ limits_of o
   pub past : (k : ℕ) → l.count ≤ k → k < 7 → get_or s.rows k [] ≡ no_limits
   pub seven : length s.rows ≡ 7
@@ -77,7 +76,7 @@ pub record DecodedAs (o : Object) (w : ℕ) (t : TakenRequest) : Type 0 where
 abbrev pub DecodedForTheKind : Type 0
 DecodedForTheKind =
     (l : Words) (w : ℕ) → bad_count l.count ≡ false → bad_position l.count (position_of w) ≡ false
-    → (o : Object) → DecodeAnswers (get_or l.words (position_of w - 1) 0) (Known o)
+    → (o : Object) → DecodeAnswers (get_or l.words (position_of w - 1) 0) (Some o)
     → (t : TakenRequest) → TakeRequestAnswers l w t
     → (IsBattery o × (t ≡ Battery (position_of w) (mismatch_of w))) ⊎ DecodedAs o w t
 
@@ -92,7 +91,7 @@ flat_for (object.Avs p l h) w = flat_in_25_mV 4 (position_of w) (bit_of (mismatc
 abbrev pub ArinDecodedForTheKind : Type 0
 ArinDecodedForTheKind =
     (l : Words) (w : ℕ) → bad_count l.count ≡ false → bad_position l.count (position_of w) ≡ false
-    → (o : Object) → DecodeAnswers (get_or l.words (position_of w - 1) 0) (Known o)
+    → (o : Object) → DecodeAnswers (get_or l.words (position_of w - 1) 0) (Some o)
     → (t : FlatTaken) → ArinTakeRequestAnswers l w t → (t.verdict ≡ success) × (t.request ≡ flat_for o w)
 
 -- ---- agreement
@@ -110,7 +109,7 @@ abbrev pub TakenApartAgrees : Type 0
 TakenApartAgrees =
     (l : Words) (w : ℕ) → ShapeAnswers l success → (m : Summarized) → SummarizeAnswers l m
     → bad_position l.count (position_of w) ≡ false
-    → (o : Object) → DecodeAnswers (get_or l.words (position_of w - 1) 0) (Known o)
+    → (o : Object) → DecodeAnswers (get_or l.words (position_of w - 1) 0) (Some o)
     → (a : QuickAsked) → TakeApartAnswers o w (asked_as a)
     → (r v : Verdict) → AnswerSummaryAnswers m.summary a r → AnswerAnswers l w v → r ≡ v
 

@@ -2,7 +2,7 @@
 -- its caller's gives 21 only if that was 21. `Never21` has a line for each public call that gives the number of a refusal, and is proved by
 -- `never_21` in proofs/Withdrawn.antt.
 -- Assumes nothing.
-use Rattle.std.specs.Prelude.{◌≡◌, Bool, List, ℕ}
+use Rattle.std.specs.Prelude.{◌≡◌, Bool, List, ℕ, Option}
 use Rattle.verdicts.specs.declared.Verdict.{Verdict}
 use Rattle.steps.specs.declared.Mv50.{Mv50}
 use Rattle.steps.specs.declared.Mv100.{Mv100}
@@ -11,8 +11,6 @@ use Rattle.steps.specs.declared.Ma50.{Ma50}
 use Rattle.steps.specs.declared.HalfWatts.{HalfWatts}
 use Rattle.objects.specs.declared.Side.{Side}
 use Rattle.objects.specs.declared.Object.{Object}
-use Rattle.objects.specs.declared.Decoded.{Decoded}
-use Rattle.objects.specs.declared.Encoded.{Encoded}
 use Rattle.objects.specs.Decode.{decoded_says}
 use Rattle.objects.specs.Encode.{encoded_says}
 use Rattle.lists.specs.declared.Words.{Words}
@@ -22,21 +20,18 @@ use Rattle.lists.specs.declared.Reading.{Reading}
 use Rattle.lists.specs.declared.Listing.{Listing}
 use Rattle.rules.specs.declared.Profile.{Profile}
 use Rattle.rules.specs.declared.Profiled.{Profiled}
-use Rattle.rules.specs.declared.Placed.{Placed}
 use Rattle.rules.specs.Placing.{placed_says}
 use Rattle.ports.specs.declared.Row.{Row}
 use Rattle.ports.specs.declared.Standing.{Standing}
 use Rattle.ports.specs.declared.Change.{Change}
 use Rattle.ports.specs.declared.RemainingPower.{RemainingPower}
 use Rattle.sinks.specs.declared.SinkObject.{SinkObject}
-use Rattle.sinks.specs.declared.SinkDecoded.{SinkDecoded}
 use Rattle.sinks.specs.declared.SinkObjects.{SinkObjects}
 use Rattle.sinks.specs.declared.SinkReading.{SinkReading}
 use Rattle.sinks.specs.SinkWords.{sink_decoded_says}
 use Rattle.flat.specs.declared.FlatObject.{FlatObject}
 use Rattle.flat.specs.declared.FlatObjects.{FlatObjects}
 use Rattle.flat.specs.declared.FlatReading.{FlatReading}
-use Rattle.flat.specs.declared.Raised.{Raised}
 use Rattle.flat.specs.Flat.{raised_says}
 use Rattle.messages.specs.declared.Message.{Message}
 use Rattle.messages.specs.declared.MessageReading.{MessageReading}
@@ -66,12 +61,12 @@ Not21 n = n ≡ 21 → ⊥
 
 pub record Never21 : Type 0 where
   -- objects
-  pub decode : (w : ℕ) (r : Decoded) → DecodeAnswers w r → Not21 (decoded_says r).0
-  pub decode_for : (side : Side) (w : ℕ) (r : Decoded) → DecodeForAnswers side w r → Not21 (decoded_says r).0
-  pub encode : (o : Object) (r : Encoded) → EncodeAnswers o r → Not21 (encoded_says r).0
-  pub fixed_word : (flags peak : ℕ) (volts : Mv50) (current : Ma10) (r : Encoded) → FixedWordAnswers flags peak volts current r → Not21 (encoded_says r).0
-  pub pps_word : (limited : ℕ) (max min : Mv100) (current : Ma50) (r : Encoded) → PpsWordAnswers limited max min current r → Not21 (encoded_says r).0
-  pub avs_word : (peak : ℕ) (low high : Ma10) (r : Encoded) → AvsWordAnswers peak low high r → Not21 (encoded_says r).0
+  pub decode : (w : ℕ) (r : Option Object) → DecodeAnswers w r → Not21 (decoded_says r).0
+  pub decode_for : (side : Side) (w : ℕ) (r : Option Object) → DecodeForAnswers side w r → Not21 (decoded_says r).0
+  pub encode : (o : Object) (r : Option ℕ) → EncodeAnswers o r → Not21 (encoded_says r).0
+  pub fixed_word : (flags peak : ℕ) (volts : Mv50) (current : Ma10) (r : Option ℕ) → FixedWordAnswers flags peak volts current r → Not21 (encoded_says r).0
+  pub pps_word : (limited : ℕ) (max min : Mv100) (current : Ma50) (r : Option ℕ) → PpsWordAnswers limited max min current r → Not21 (encoded_says r).0
+  pub avs_word : (peak : ℕ) (low high : Ma10) (r : Option ℕ) → AvsWordAnswers peak low high r → Not21 (encoded_says r).0
   -- lists; `refuse` gives the number that it is handed, and `finished` hands on a refusal
   pub shape_for : (side : Side) (l : Words) (r : Verdict) → ShapeForAnswers side l r → Not21 r.number
   pub shape : (l : Words) (r : Verdict) → ShapeAnswers l r → Not21 r.number
@@ -83,7 +78,7 @@ pub record Never21 : Type 0 where
   -- rules
   pub default_profile : (m : HalfWatts) (r : Profiled) → DefaultAnswers m r → Not21 r.verdict.number
   pub build : (p : Profile) (r : Listing) → BuildAnswers p r → Not21 r.verdict.number
-  pub word_at : (p : Profile) (place : ℕ) (r : Placed) → WordAtAnswers p place r → Not21 (placed_says r).0
+  pub word_at : (p : Profile) (place : ℕ) (r : Option ℕ) → WordAtAnswers p place r → Not21 (placed_says r).0
   pub check : (p : Profile) (l : Words) (r : Verdict) → CheckAnswers p l r → Not21 r.number
   -- requests
   pub judge : (o : Object) (w : ℕ) (r : Verdict) → JudgeAnswers o w r → Not21 r.number
@@ -93,8 +88,8 @@ pub record Never21 : Type 0 where
   pub take_request : (l : Words) (w : ℕ) (r : TakenRequest) → TakeRequestAnswers l w r → Not21 (taken_verdict r).number
   pub answer_summary : (s : Summary) (a : QuickAsked) (r : Verdict) → AnswerSummaryAnswers s a r → Not21 r.number
   -- sinks
-  pub sink_decode : (w : ℕ) (r : SinkDecoded) → SinkDecodeAnswers w r → Not21 (sink_decoded_says r).0
-  pub sink_encode : (o : SinkObject) (r : Encoded) → SinkEncodeAnswers o r → Not21 (encoded_says r).0
+  pub sink_decode : (w : ℕ) (r : Option SinkObject) → SinkDecodeAnswers w r → Not21 (sink_decoded_says r).0
+  pub sink_encode : (o : SinkObject) (r : Option ℕ) → SinkEncodeAnswers o r → Not21 (encoded_says r).0
   pub sink_shape : (l : Words) (r : Verdict) → SinkShapeAnswers l r → Not21 r.number
   pub sink_read : (l : Words) (r : SinkReading) → SinkReadAnswers l r → Not21 r.verdict.number
   pub sink_write : (o : SinkObjects) (r : Listing) → SinkWriteAnswers o r → Not21 r.verdict.number
@@ -119,7 +114,7 @@ pub record Never21 : Type 0 where
   pub remaining : (s : Standing) (capacity : HalfWatts) (r : RemainingPower) → RemainingDecides s capacity r
       → Not21 s.fault.number → Not21 r.verdict.number
   -- flat
-  pub raise : (x : FlatObject) (r : Raised) → RaiseAnswers x r → Not21 (raised_says r).0
+  pub raise : (x : FlatObject) (r : Option Object) → RaiseAnswers x r → Not21 (raised_says r).0
   pub flat_read_for : (side : Side) (l : Words) (r : FlatReading) → FlatReadForAnswers side l r → Not21 r.verdict.number
   pub flat_read : (l : Words) (r : FlatReading) → FlatReadAnswers l r → Not21 r.verdict.number
   pub flat_write_for : (side : Side) (f : FlatObjects) (r : Listing) → FlatWriteForAnswers side f r → Not21 r.verdict.number

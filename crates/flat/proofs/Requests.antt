@@ -1,5 +1,6 @@
 -- Decoded requests as C has them: which kind numbers have one, and the answer by way of it.
 -- Assumes nothing.
+use Rattle.std.specs.Prelude.{Option, Some, None}
 use mathlib.Core.Path.{◌≡◌, refl, sym, ap, ◌∙◌, subst}
 use mathlib.Core.Bool.{Bool, true, false, not}
 use Prim.Native.Nat.{ℕ, zero, suc}
@@ -22,14 +23,12 @@ use Rattle.summaries.specs.Answering.{row_of, summary_refusals, answered_by}
 use Rattle.summaries.proofs.Unread.{answered_alike}
 use Rattle.flat.specs.declared.FlatRequest.{FlatRequest}
 use Rattle.flat.specs.declared.FlatTaken.{FlatTaken}
-use Rattle.flat.specs.declared.requesting.RaisedRequest.{RaisedRequest}
-use Rattle.flat.specs.declared.requesting.RaisedRequest.TheVariants.{Known, Unknown}
 use Rattle.flat.specs.Requesting.{bit_of, flat_request_by, flat_request_of, flat_taken_by, flat_taken_of, raised_request_by, raised_request_of, asked_of, has_none, flat_answer_refusals, flat_answered_of, own_request_by, own_request}
 
 -- whether an answer is a decoded request
-abbrev is_unknown : RaisedRequest → Bool
-is_unknown (Known a) = false
-is_unknown Unknown = true
+abbrev is_unknown : Option QuickAsked → Bool
+is_unknown (Some a) = false
+is_unknown None = true
 
 told_by : (k : ℕ) (x : FlatRequest) → has_none k ≡ is_unknown (raised_request_by k x)
 told_by zero x = refl
@@ -51,7 +50,7 @@ pub raised_as : (x : FlatRequest) (k : ℕ) → x.kind ≡ k → raised_request_
 unfolding raised_request_of
 raised_as x k e = ap (λ (n : ℕ). raised_request_by n x) e
 
-none_by : (x : FlatRequest) (k : ℕ) → (k ≡ 0 → ⊥) → (k ≡ 2 → ⊥) → (k ≡ 3 → ⊥) → (k ≡ 4 → ⊥) → raised_request_by k x ≡ Unknown
+none_by : (x : FlatRequest) (k : ℕ) → (k ≡ 0 → ⊥) → (k ≡ 2 → ⊥) → (k ≡ 3 → ⊥) → (k ≡ 4 → ⊥) → raised_request_by k x ≡ None
 none_by x zero a b c d = absurd (a refl)
 none_by x (suc zero) a b c d = refl
 none_by x (suc (suc zero)) a b c d = absurd (b refl)
@@ -59,7 +58,7 @@ none_by x (suc (suc (suc zero))) a b c d = absurd (c refl)
 none_by x (suc (suc (suc (suc zero)))) a b c d = absurd (d refl)
 none_by x (suc (suc (suc (suc (suc k))))) a b c d = refl
 
-pub raised_none : (x : FlatRequest) → (x.kind ≡ 0 → ⊥) → (x.kind ≡ 2 → ⊥) → (x.kind ≡ 3 → ⊥) → (x.kind ≡ 4 → ⊥) → raised_request_of x ≡ Unknown
+pub raised_none : (x : FlatRequest) → (x.kind ≡ 0 → ⊥) → (x.kind ≡ 2 → ⊥) → (x.kind ≡ 3 → ⊥) → (x.kind ≡ 4 → ⊥) → raised_request_of x ≡ None
 unfolding raised_request_of
 raised_none x a b c d = none_by x x.kind a b c d
 
@@ -71,15 +70,15 @@ module _ (s : Summary) (x : FlatRequest) where
   unfolding flat_answered_of
   flat_answered = refl
 
-  pub no_decoded_request : raised_request_of x ≡ Unknown → flat_answered_of s x ≡ verdict 12 0
+  pub no_decoded_request : raised_request_of x ≡ None → flat_answered_of s x ≡ verdict 12 0
   unfolding flat_answered_of
   no_decoded_request e = hit verdict success 12 0 _ (told x ∙ ap is_unknown e)
 
-  pub by_decoded_request : (a : QuickAsked) → raised_request_of x ≡ Known a → flat_answered_of s x ≡ answered_by s a
+  pub by_decoded_request : (a : QuickAsked) → raised_request_of x ≡ Some a → flat_answered_of s x ≡ answered_by s a
   unfolding flat_answered_of answered_by
   by_decoded_request a e =
       miss verdict success 12 0 _ (told x ∙ ap is_unknown e)
-      ∙ ap (λ (r : RaisedRequest). verdict_of (summary_refusals s (asked_of r x))) e
+      ∙ ap (λ (r : Option QuickAsked). verdict_of (summary_refusals s (asked_of r x))) e
 
 -- ---- out and in again
 
@@ -88,7 +87,7 @@ bit_again true = refl
 bit_again false = refl
 
 raised_again : (p : ℕ) (m : Bool) (r : QuickRequest)
-    → raised_request_of (flat_request_by p (bit_of m) r) ≡ Known (record { position = p; mismatch = not (eqb (bit_of m) 0); request = r })
+    → raised_request_of (flat_request_by p (bit_of m) r) ≡ Some (record { position = p; mismatch = not (eqb (bit_of m) 0); request = r })
 unfolding raised_request_of
 raised_again p m (Fixed o x) = refl
 raised_again p m (Variable o x) = refl
@@ -96,11 +95,11 @@ raised_again p m (Pps v a) = refl
 raised_again p m (Avs v a) = refl
 
 -- a decoded request that was made flat is taken in as it was
-pub request_again : (a : QuickAsked) → raised_request_of (flat_request_of a) ≡ Known a
+pub request_again : (a : QuickAsked) → raised_request_of (flat_request_of a) ≡ Some a
 unfolding flat_request_of
 request_again a =
     raised_again a.position a.mismatch a.request
-    ∙ ap (λ (m : Bool). Known (record { position = a.position; mismatch = m; request = a.request })) (bit_again a.mismatch)
+    ∙ ap (λ (m : Bool). Some (record { position = a.position; mismatch = m; request = a.request })) (bit_again a.mismatch)
 
 -- what decoding gives to C, by what it gives
 module _ (l : Words) (w : ℕ) where
@@ -122,20 +121,20 @@ pub flat_taken_by_one : (l m : Words) (w : ℕ) → taken_of l w ≡ taken_of m 
 flat_taken_by_one l m w e = flat_taken l w ∙ ap flat_taken_by e ∙ sym (flat_taken m w)
 
 -- by the decoded request, where there is one
-abbrev answered_raised : Summary → RaisedRequest → Verdict
-answered_raised s (Known a) = answered_by s a
-answered_raised s Unknown = verdict 12 0
+abbrev answered_raised : Summary → Option QuickAsked → Verdict
+answered_raised s (Some a) = answered_by s a
+answered_raised s None = verdict 12 0
 
 by_raised : (s : Summary) (x : FlatRequest) → flat_answered_of s x ≡ answered_raised s (raised_request_of x)
 by_raised s x = go (raised_request_of x) refl where
-  go : (r : RaisedRequest) → raised_request_of x ≡ r → flat_answered_of s x ≡ answered_raised s r
-  go (Known a) e = by_decoded_request s x a e
-  go Unknown e = no_decoded_request s x e
+  go : (r : Option QuickAsked) → raised_request_of x ≡ r → flat_answered_of s x ≡ answered_raised s r
+  go (Some a) e = by_decoded_request s x a e
+  go None e = no_decoded_request s x e
 
 -- the position is that of the struct, whatever the kind
-abbrev PlacedAt : ℕ → RaisedRequest → Type 0
-PlacedAt p (Known a) = a.position ≡ p
-PlacedAt p Unknown = Unit
+abbrev PlacedAt : ℕ → Option QuickAsked → Type 0
+PlacedAt p (Some a) = a.position ≡ p
+PlacedAt p None = Unit
 
 placed_by : (k : ℕ) (x : FlatRequest) → PlacedAt x.position (raised_request_by k x)
 placed_by zero x = refl
@@ -153,11 +152,11 @@ placed_as x = placed_by x.kind x
 pub flat_answered_alike : (s t : Summary) (x : FlatRequest) → s.count ≡ t.count
     → (bad_position s.count x.position ≡ false → row_of s x.position ≡ row_of t x.position) → flat_answered_of s x ≡ flat_answered_of t x
 flat_answered_alike s t x e f = by_raised s x ∙ go (raised_request_of x) (placed_as x) ∙ sym (by_raised t x) where
-  go : (r : RaisedRequest) → PlacedAt x.position r → answered_raised s r ≡ answered_raised t r
-  go (Known a) p =
+  go : (r : Option QuickAsked) → PlacedAt x.position r → answered_raised s r ≡ answered_raised t r
+  go (Some a) p =
       answered_alike s t a e
       (λ q. ap (row_of s) p ∙ f (ap (bad_position s.count) (sym p) ∙ q) ∙ sym (ap (row_of t) p))
-  go Unknown p = refl
+  go None p = refl
 
 -- of the struct the fields of the kind alone
 own_by_lem : (k : ℕ) (x : FlatRequest) → x.kind ≡ k → raised_request_by (own_request_by k x).kind (own_request_by k x) ≡ raised_request_by k x

@@ -1,7 +1,7 @@
 -- One struct for all five kinds (STATEMENT, "Lists in hand"). "Fields that the kind does not have are not looked at, and are zero in what
 -- is given back."
 -- Assumes nothing.
-use Rattle.std.specs.Prelude.{cond, ℕ, zero, suc, ltb}
+use Rattle.std.specs.Prelude.{cond, ℕ, zero, suc, ltb, Option, Some, None}
 use Rattle.steps.specs.declared.Mv50.{Mv50}
 use Rattle.steps.specs.declared.Mv100.{Mv100}
 use Rattle.steps.specs.declared.Ma10.{Ma10}
@@ -13,8 +13,6 @@ use Rattle.objects.specs.declared.Object.{Object}
 use Rattle.objects.specs.declared.Object.TheVariants.{Fixed, Battery, Variable, Pps, Avs}
 use Rattle.objects.specs.Decode.{zero_object}
 use Rattle.flat.specs.declared.FlatObject.{FlatObject}
-use Rattle.flat.specs.declared.Raised.{Raised}
-use Rattle.flat.specs.declared.Raised.TheVariants.{Known, Unknown}
 
 -- ---- out: by the object's kind
 
@@ -64,38 +62,38 @@ flat_of (Avs p l h) = flat_avs p l h
 
 -- ---- in: by the kind number
 
-abbrev pub raised_by : ℕ → FlatObject → Raised
-raised_by zero x = Known (Fixed x.flags x.peak x.volts x.current)
-raised_by (suc zero) x = Known (Battery x.max x.min x.power)
-raised_by (suc (suc zero)) x = Known (Variable x.max x.min x.current)
-raised_by (suc (suc (suc zero))) x = Known (Pps x.limited x.max100 x.min100 x.current50)
-raised_by (suc (suc (suc (suc zero)))) x = Known (Avs x.peak x.low x.high)
-raised_by (suc (suc (suc (suc (suc k))))) x = Unknown
+abbrev pub raised_by : ℕ → FlatObject → Option Object
+raised_by zero x = Some (Fixed x.flags x.peak x.volts x.current)
+raised_by (suc zero) x = Some (Battery x.max x.min x.power)
+raised_by (suc (suc zero)) x = Some (Variable x.max x.min x.current)
+raised_by (suc (suc (suc zero))) x = Some (Pps x.limited x.max100 x.min100 x.current50)
+raised_by (suc (suc (suc (suc zero)))) x = Some (Avs x.peak x.low x.high)
+raised_by (suc (suc (suc (suc (suc k))))) x = None
 
-unfoldable pub raised_of : FlatObject → Raised
+unfoldable pub raised_of : FlatObject → Option Object
 raised_of x = raised_by x.kind x
 
 -- in the list of a sink: "4 is not a sink's kind", and "Peak current and power limited are fields that no sink object has: they are not
 -- looked at" (STATEMENT, "Shape of a sink list")
-abbrev pub sink_raised_by : ℕ → FlatObject → Raised
-sink_raised_by zero x = Known (Fixed x.flags 0 x.volts x.current)
-sink_raised_by (suc zero) x = Known (Battery x.max x.min x.power)
-sink_raised_by (suc (suc zero)) x = Known (Variable x.max x.min x.current)
-sink_raised_by (suc (suc (suc zero))) x = Known (Pps 0 x.max100 x.min100 x.current50)
-sink_raised_by (suc (suc (suc (suc k)))) x = Unknown
+abbrev pub sink_raised_by : ℕ → FlatObject → Option Object
+sink_raised_by zero x = Some (Fixed x.flags 0 x.volts x.current)
+sink_raised_by (suc zero) x = Some (Battery x.max x.min x.power)
+sink_raised_by (suc (suc zero)) x = Some (Variable x.max x.min x.current)
+sink_raised_by (suc (suc (suc zero))) x = Some (Pps 0 x.max100 x.min100 x.current50)
+sink_raised_by (suc (suc (suc (suc k)))) x = None
 
-unfoldable pub sink_raised : FlatObject → Raised
+unfoldable pub sink_raised : FlatObject → Option Object
 sink_raised x = sink_raised_by x.kind x
 
-abbrev pub raised_for : Side → FlatObject → Raised
+abbrev pub raised_for : Side → FlatObject → Option Object
 raised_for Source x = raised_of x
 raised_for Sink x = sink_raised x
 
 -- What each answer says: its refusal number, and the object. 12: "a kind that is not allowed". "On a refusal everything else in the
 -- answer is zero".
-abbrev pub raised_says : Raised → ℕ × Object
-raised_says (Known o) = (0, o)
-raised_says Unknown = (12, zero_object)
+abbrev pub raised_says : Option Object → ℕ × Object
+raised_says (Some o) = (0, o)
+raised_says None = (12, zero_object)
 
 -- what is to be said of a flat object: a number above 4 is no kind
 abbrev pub flat_says : FlatObject → ℕ × Object

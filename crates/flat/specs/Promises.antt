@@ -1,7 +1,7 @@
 -- What each public call of this crate promises of its answer (STATEMENT, "Lists in hand", "Decoded requests" and "Answering from a summary"). The
 -- contracts cite these names, and so do the theorems over them.
 -- Assumes nothing.
-use Rattle.std.specs.Prelude.{◌≡◌, ℕ}
+use Rattle.std.specs.Prelude.{◌≡◌, ℕ, Option}
 use Rattle.verdicts.specs.declared.Verdict.{Verdict}
 use Rattle.objects.specs.declared.Side.{Side}
 use Rattle.objects.specs.declared.Object.{Object}
@@ -13,7 +13,6 @@ use Rattle.flat.specs.declared.FlatObjects.{FlatObjects}
 use Rattle.flat.specs.declared.FlatReading.{FlatReading}
 use Rattle.flat.specs.declared.FlatRequest.{FlatRequest}
 use Rattle.flat.specs.declared.FlatTaken.{FlatTaken}
-use Rattle.flat.specs.declared.Raised.{Raised}
 use Rattle.flat.specs.Flat.{flat_of, raised_says, flat_says}
 use Rattle.flat.specs.Reading.{flat_reading_for, flat_reading_of}
 use Rattle.flat.specs.Writing.{flat_write_for, flat_write_of}
@@ -22,7 +21,7 @@ use Rattle.flat.specs.Requesting.{flat_taken_of, flat_answered_of}
 abbrev pub Flattens : Object → FlatObject → Type 0
 Flattens o r = r ≡ flat_of o
 
-abbrev pub Raises : FlatObject → Raised → Type 0
+abbrev pub Raises : FlatObject → Option Object → Type 0
 Raises x r = raised_says r ≡ flat_says x
 
 abbrev pub FlatReadsFor : Side → Words → FlatReading → Type 0

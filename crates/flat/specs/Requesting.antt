@@ -2,7 +2,7 @@
 -- number, that of the object. Fields that the kind does not have are not looked at, and are zero in what is given back."), and the answer to one
 -- ("Answering from a summary").
 -- Assumes nothing.
-use Rattle.std.specs.Prelude.{Bool, not, ◌||◌, cond, List, ◌∷◌, ℕ, zero, suc, eqb}
+use Rattle.std.specs.Prelude.{Bool, not, ◌||◌, cond, List, ◌∷◌, ℕ, zero, suc, eqb, Option, Some, None}
 use Rattle.verdicts.specs.declared.Verdict.{Verdict}
 use Rattle.verdicts.specs.Refusals.{Refusal, refusal, success, verdict_of}
 use Rattle.steps.specs.declared.Mv20.{Mv20}
@@ -20,8 +20,6 @@ use Rattle.summaries.specs.Taking.{taken_of}
 use Rattle.summaries.specs.Answering.{summary_refusals}
 use Rattle.flat.specs.declared.FlatRequest.{FlatRequest}
 use Rattle.flat.specs.declared.FlatTaken.{FlatTaken}
-use Rattle.flat.specs.declared.requesting.RaisedRequest.{RaisedRequest}
-use Rattle.flat.specs.declared.requesting.RaisedRequest.TheVariants.{Known, Unknown}
 use Rattle.flat.specs.Flat.{no_ma10, no_ma50}
 
 -- ---- out: by the kind of the object
@@ -83,21 +81,21 @@ flat_taken_of l w = flat_taken_by (taken_of l w)
 abbrev pub asked_with : FlatRequest → QuickRequest → QuickAsked
 asked_with x r = record { position = x.position; mismatch = not (eqb x.mismatch 0); request = r }
 
-abbrev pub raised_request_by : ℕ → FlatRequest → RaisedRequest
-raised_request_by zero x = Known (asked_with x (Fixed x.operating x.maximum))
-raised_request_by (suc zero) x = Unknown
-raised_request_by (suc (suc zero)) x = Known (asked_with x (Variable x.operating x.maximum))
-raised_request_by (suc (suc (suc zero))) x = Known (asked_with x (Pps x.volts20 x.current50))
-raised_request_by (suc (suc (suc (suc zero)))) x = Known (asked_with x (Avs x.volts25 x.current50))
-raised_request_by (suc (suc (suc (suc (suc k))))) x = Unknown
+abbrev pub raised_request_by : ℕ → FlatRequest → Option QuickAsked
+raised_request_by zero x = Some (asked_with x (Fixed x.operating x.maximum))
+raised_request_by (suc zero) x = None
+raised_request_by (suc (suc zero)) x = Some (asked_with x (Variable x.operating x.maximum))
+raised_request_by (suc (suc (suc zero))) x = Some (asked_with x (Pps x.volts20 x.current50))
+raised_request_by (suc (suc (suc (suc zero)))) x = Some (asked_with x (Avs x.volts25 x.current50))
+raised_request_by (suc (suc (suc (suc (suc k))))) x = None
 
-unfoldable pub raised_request_of : FlatRequest → RaisedRequest
+unfoldable pub raised_request_of : FlatRequest → Option QuickAsked
 raised_request_of x = raised_request_by x.kind x
 
 -- the decoded request of a flat one that has one
-abbrev pub asked_of : RaisedRequest → FlatRequest → QuickAsked
-asked_of (Known a) x = a
-asked_of Unknown x = asked_with x (Fixed x.operating x.maximum)
+abbrev pub asked_of : Option QuickAsked → FlatRequest → QuickAsked
+asked_of (Some a) x = a
+asked_of None x = asked_with x (Fixed x.operating x.maximum)
 
 -- "whose kind number is not that of a fixed, a variable, a PPS or an AVS object"
 abbrev pub has_none : ℕ → Bool

@@ -3,9 +3,7 @@ ghost use Rattle.flat.specs.Flat.{raised_says, raised_for, sink_raised};
 ghost use Rattle.std.specs.Prelude.{◌≡◌};
 ghost use Rattle.flat.specs.Promises.{Flattens, Raises};
 
-use crate::{
-    EMPTY_FLAT, FlatObject, KIND_AVS, KIND_BATTERY, KIND_FIXED, KIND_PPS, KIND_VARIABLE, Raised,
-};
+use crate::{EMPTY_FLAT, FlatObject, KIND_AVS, KIND_BATTERY, KIND_FIXED, KIND_PPS, KIND_VARIABLE};
 use objects::{Object, Side};
 
 // An object as a flat one: the fields of its kind, and all others zero. Nothing is refused.
@@ -64,9 +62,9 @@ pub fn flatten(o: Object) -> FlatObject
     }
 }
 
-// The object of a flat one; the fields that its kind does not have are not read. `Unknown` (refusal 12) where the kind number is none of
+// The object of a flat one; the fields that its kind does not have are not read. `None` (refusal 12) where the kind number is none of
 // the five.
-pub fn raise(flat: FlatObject) -> Raised
+pub fn raise(flat: FlatObject) -> Option<Object>
     ensures { Raises flat result }
 {
     let kind = flat.kind;
@@ -74,7 +72,7 @@ pub fn raise(flat: FlatObject) -> Raised
         KIND_FIXED => {
             let volts = flat.volts;
             let current = flat.current;
-            Raised::Known(Object::Fixed {
+            Some(Object::Fixed {
                 flags: flat.flags,
                 peak: flat.peak,
                 volts,
@@ -85,19 +83,19 @@ pub fn raise(flat: FlatObject) -> Raised
             let max = flat.max;
             let min = flat.min;
             let power = flat.power;
-            Raised::Known(Object::Battery { max, min, power })
+            Some(Object::Battery { max, min, power })
         }
         KIND_VARIABLE => {
             let max = flat.max;
             let min = flat.min;
             let current = flat.current;
-            Raised::Known(Object::Variable { max, min, current })
+            Some(Object::Variable { max, min, current })
         }
         KIND_PPS => {
             let max = flat.max100;
             let min = flat.min100;
             let current = flat.current50;
-            Raised::Known(Object::Pps {
+            Some(Object::Pps {
                 limited: flat.limited,
                 max,
                 min,
@@ -107,22 +105,22 @@ pub fn raise(flat: FlatObject) -> Raised
         KIND_AVS => {
             let low = flat.low;
             let high = flat.high;
-            Raised::Known(Object::Avs {
+            Some(Object::Avs {
                 peak: flat.peak,
                 low,
                 high,
             })
         }
-        _ => Raised::Unknown,
+        _ => None,
     }
 }
 
 // The object of a flat one in the list of a sink, which has no AVS, no peak current and no power limited.
-fn raise_sink(flat: FlatObject) -> Raised
+fn raise_sink(flat: FlatObject) -> Option<Object>
     ensures { raised_says result ≡ raised_says (sink_raised flat) }
 {
     if flat.kind == KIND_AVS {
-        return Raised::Unknown;
+        return None;
     }
     let mut own = flat;
     own.peak = 0;
@@ -130,8 +128,8 @@ fn raise_sink(flat: FlatObject) -> Raised
     raise(own)
 }
 
-// The object of a flat one in a list of this side. `Unknown` where the kind number is none that the side has.
-pub fn raise_for(side: Side, flat: FlatObject) -> Raised
+// The object of a flat one in a list of this side. `None` where the kind number is none that the side has.
+pub fn raise_for(side: Side, flat: FlatObject) -> Option<Object>
     ensures { raised_says result ≡ raised_says (raised_for side flat) }
 {
     match side {

@@ -85,16 +85,6 @@ pub struct FlatReading {
     // The objects.
     pub list: FlatObjects,
 }
-
-// The object of a flat one, or a kind number that is none of the five (refusal 12).
-#[derive(Clone, Copy)]
-pub enum Raised {
-    // The object.
-    Known(Object),
-    // The kind number is none of the five.
-    Unknown,
-}
-
 // A decoded request of any kind: each field has one step of measure. A field that a kind does not have is zero when it is given out, and not
 // read when it is taken in.
 #[repr(C)]

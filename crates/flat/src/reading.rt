@@ -9,13 +9,13 @@ ghost use Rattle.flat.specs.Promises.{FlatReads, FlatReadsFor};
 use crate::flattening::flatten;
 use crate::{EMPTY_FLAT, FlatObject, FlatObjects, FlatReading};
 use lists::Words;
-use objects::{Decoded, Side};
+use objects::Side;
 
 fn flat_word(w: u32) -> FlatObject
     ensures { result ≡ flat_of (object_of (decode_of w)) }
 {
     let d = objects::decode(w);
-    let Decoded::Known(object) = d else {
+    let Some(object) = d else {
         return EMPTY_FLAT;
     };
     flatten(object)

@@ -1,6 +1,5 @@
 // Decoded requests, both ways: out of a request word, and in to a summary.
-ghost use Rattle.std.specs.Prelude.{◌≡◌};
-ghost use Rattle.flat.specs.declared.requesting.RaisedRequest.TheVariants.{Known};
+ghost use Rattle.std.specs.Prelude.{◌≡◌, Some};
 ghost use Rattle.flat.specs.Requesting.{bit_of, flat_request_of, flat_battery_of, taken_as, asked_with, raised_request_of};
 ghost use Rattle.flat.specs.Promises.{FlatTakesRequest, FlatAnswersSummary};
 
@@ -10,15 +9,6 @@ use crate::{
 use lists::Words;
 use summaries::{QuickAsked, QuickRequest, Summary, TakenRequest};
 use verdicts::Verdict;
-
-// The decoded request of a flat one, or a kind number that has none (refusal 12).
-#[derive(Clone, Copy)]
-enum RaisedRequest {
-    // The decoded request.
-    Known(QuickAsked),
-    // The kind number is none of the four.
-    Unknown,
-}
 
 fn bit(mismatch: bool) -> u8
     ensures { result ≡ bit_of mismatch }
@@ -102,17 +92,17 @@ pub fn flat_take_request(list: Words, word: u32) -> FlatTaken
     }
 }
 
-fn known(flat: FlatRequest, request: QuickRequest) -> RaisedRequest
-    ensures { result ≡ Known (asked_with flat request) }
+fn known(flat: FlatRequest, request: QuickRequest) -> Option<QuickAsked>
+    ensures { result ≡ Some (asked_with flat request) }
 {
-    RaisedRequest::Known(QuickAsked {
+    Some(QuickAsked {
         position: flat.position,
         mismatch: flat.mismatch != 0,
         request,
     })
 }
 
-fn raise_request(flat: FlatRequest) -> RaisedRequest
+fn raise_request(flat: FlatRequest) -> Option<QuickAsked>
     ensures { result ≡ raised_request_of flat }
 {
     let kind = flat.kind;
@@ -137,7 +127,7 @@ fn raise_request(flat: FlatRequest) -> RaisedRequest
             let current = flat.current50;
             known(flat, QuickRequest::Avs { volts, current })
         }
-        _ => RaisedRequest::Unknown,
+        _ => None,
     }
 }
 
@@ -147,7 +137,7 @@ pub fn flat_answer_summary(summary: Summary, request: FlatRequest) -> Verdict
     ensures { FlatAnswersSummary summary request result }
 {
     let raised = raise_request(request);
-    let RaisedRequest::Known(asked) = raised else {
+    let Some(asked) = raised else {
         return Verdict {
             number: verdicts::KIND_NOT_ALLOWED,
             place: 0,

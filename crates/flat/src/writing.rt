@@ -6,21 +6,21 @@ ghost use Rattle.flat.specs.Writing.{encoded_raised, flat_made_for};
 ghost use Rattle.flat.specs.Promises.{FlatWrites, FlatWritesFor};
 
 use crate::flattening::raise_for;
-use crate::{FlatObject, FlatObjects, Raised};
+use crate::{FlatObject, FlatObjects};
 use lists::{Listing, Words, refuse};
-use objects::{Encoded, Side};
+use objects::Side;
 use verdicts::Verdict;
 
 // A word of the kind 1111b, which no list may have. It stands for a flat object of no kind, so that the shape of the words refuses that
 // one in its turn.
 const NO_KIND: u32 = objects::BITS_UNASSIGNED << 28;
 
-fn encode_flat(side: Side, flat: FlatObject) -> Encoded
+fn encode_flat(side: Side, flat: FlatObject) -> Option<u32>
     ensures { encoded_says result ≡ encoded_says (encoded_raised (raised_for side flat)) }
 {
     let raised = raise_for(side, flat);
-    let Raised::Known(object) = raised else {
-        return Encoded::Word(NO_KIND);
+    let Some(object) = raised else {
+        return Some(NO_KIND);
     };
     objects::encode(object)
 }
@@ -39,7 +39,7 @@ fn encode_places(side: Side, list: FlatObjects) -> Listing
         let at = i as usize;
         let flat = list.places[at];
         let e = encode_flat(side, flat);
-        let Encoded::Word(w) = e else {
+        let Some(w) = e else {
             return refuse(verdicts::FIELD_TOO_WIDE, i + 1);
         };
         words[at] = w;

@@ -1,5 +1,6 @@
 -- One word judged: the cases of `judged_of`, and what a judgement says of the word's rows.
 -- Assumes nothing.
+use Rattle.std.specs.Prelude.{Option, Some, None}
 use mathlib.Core.Path.{◌≡◌, refl, sym, ap, ◌∙◌, subst}
 use mathlib.Core.Bool.{Bool, true, false, not}
 use mathlib.Core.List.{List}
@@ -12,8 +13,6 @@ use Rattle.verdicts.specs.Refusals.{Refusal, first_of, verdict, verdict_of, None
 use Rattle.verdicts.proofs.First.{onto, refused_so, none_applied, all_missed}
 use Rattle.objects.specs.declared.Side.{Side}
 use Rattle.objects.specs.declared.Object.{Object}
-use Rattle.objects.specs.declared.Decoded.{Decoded}
-use Rattle.objects.specs.declared.Decoded.TheVariants.{Known, NotAllowed}
 use Rattle.objects.specs.Decode.{decode_for, decoded_number}
 use Rattle.objects.specs.Reserved.{reserved_set}
 use Rattle.lists.specs.declared.object_rules.Standing.{Standing}
@@ -24,11 +23,11 @@ use Rattle.lists.specs.Reading.{object_of}
 use Rattle.lists.specs.Judging.{standing_of, refused_word, fine_word, judged_of}
 
 module _ (side : Side) (first : Bool) (place : ℕ) (before : Object) (w : ℕ) where
-  pub not_known : decode_for side w ≡ NotAllowed → judged_of side first place before w ≡ refused_word 12 place
+  pub not_known : decode_for side w ≡ None → judged_of side first place before w ≡ refused_word 12 place
   unfolding judged_of first_of
   not_known d = rw d
 
-module _ (side : Side) (first : Bool) (place : ℕ) (before : Object) (w : ℕ) (o : Object) (d : decode_for side w ≡ Known o) where
+module _ (side : Side) (first : Bool) (place : ℕ) (before : Object) (w : ℕ) (o : Object) (d : decode_for side w ≡ Some o) where
   pub reserved : reserved_set side o first w ≡ true → judged_of side first place before w ≡ refused_word 13 place
   unfolding judged_of first_of
   reserved r = rw d (rw r)
@@ -42,48 +41,48 @@ module _ (side : Side) (first : Bool) (place : ℕ) (before : Object) (w : ℕ) 
   power r b p = rw d (rw (r, b, p))
 
   pub order : reserved_set side o first w ≡ false → out_of_bounds o ≡ false → over_100_W o ≡ false
-      → out_of_order first (Known before) (Known o) ≡ true → judged_of side first place before w ≡ refused_word 14 place
+      → out_of_order first (Some before) (Some o) ≡ true → judged_of side first place before w ≡ refused_word 14 place
   unfolding judged_of first_of
   order r b p q = rw d (rw (r, b, p, q))
 
   pub fine : reserved_set side o first w ≡ false → out_of_bounds o ≡ false → over_100_W o ≡ false
-      → out_of_order first (Known before) (Known o) ≡ false → judged_of side first place before w ≡ fine_word o
+      → out_of_order first (Some before) (Some o) ≡ false → judged_of side first place before w ≡ fine_word o
   unfolding judged_of first_of
   fine r b p q = rw d (rw (r, b, p, q))
 
-pub in_order : (first : Bool) (before o : Object) → may_follow before o ≡ true → out_of_order first (Known before) (Known o) ≡ false
+pub in_order : (first : Bool) (before o : Object) → may_follow before o ≡ true → out_of_order first (Some before) (Some o) ≡ false
 in_order true before o e = refl
 in_order false before o e = ap not e
 
-pub out_of_order_lem : (first : Bool) (before o : Object) → first ≡ false → may_follow before o ≡ false → out_of_order first (Known before) (Known o) ≡ true
+pub out_of_order_lem : (first : Bool) (before o : Object) → first ≡ false → may_follow before o ≡ false → out_of_order first (Some before) (Some o) ≡ true
 out_of_order_lem first before o f e = rw f (ap not e)
 
-pub first_in_order : (first : Bool) (before o : Object) → first ≡ true → out_of_order first (Known before) (Known o) ≡ false
+pub first_in_order : (first : Bool) (before o : Object) → first ≡ true → out_of_order first (Some before) (Some o) ≡ false
 first_in_order first before o f = rw f
 
 -- ---- what a judgement says
 
 -- the rows of a place, by the object before it
-pub rows_at : (side : Side) (ws : List ℕ) (k : ℕ) (before : Object) → (0 < k → decode_for side (get_or ws (k - 1) 0) ≡ Known before)
-    → word_refusals side (eqb k 0) (k + 1) (Known before) (get_or ws k 0) ≡ word_rows side ws k
+pub rows_at : (side : Side) (ws : List ℕ) (k : ℕ) (before : Object) → (0 < k → decode_for side (get_or ws (k - 1) 0) ≡ Some before)
+    → word_refusals side (eqb k 0) (k + 1) (Some before) (get_or ws k 0) ≡ word_rows side ws k
 rows_at side ws zero before h = refl
 rows_at side ws (suc k) before h =
-    ap (λ (d : Decoded). word_refusals side (eqb (suc k) 0) (suc k + 1) d (get_or ws (suc k) 0)) (sym (h (omega arith)))
+    ap (λ (d : Option Object). word_refusals side (eqb (suc k) 0) (suc k + 1) d (get_or ws (suc k) 0)) (sym (h (omega arith)))
 
 -- the object before a place, which stands so; before the first place any object will do
 pub record Before (side : Side) (ws : List ℕ) (k : ℕ) (s : Standing) : Type 0 where
   pub object : Object
   pub stands : standing_of object ≡ s
-  pub decoded : 0 < k → decode_for side (get_or ws (k - 1) 0) ≡ Known object
+  pub decoded : 0 < k → decode_for side (get_or ws (k - 1) 0) ≡ Some object
 
 -- a word that has no fault of kind has an object
-pub has_object : (d : Decoded) → eqb (decoded_number d) 12 ≡ false → d ≡ Known (object_of d)
-has_object (Known o) e = refl
-has_object NotAllowed e = let z : true ≡ false = e in cc
+pub has_object : (d : Option Object) → eqb (decoded_number d) 12 ≡ false → d ≡ Some (object_of d)
+has_object (Some o) e = refl
+has_object None e = let z : true ≡ false = e in cc
 
-module _ (side : Side) (ws : List ℕ) (k : ℕ) (before : Object) (h : 0 < k → decode_for side (get_or ws (k - 1) 0) ≡ Known before) where
+module _ (side : Side) (ws : List ℕ) (k : ℕ) (before : Object) (h : 0 < k → decode_for side (get_or ws (k - 1) 0) ≡ Some before) where
   abbrev rows : List Refusal
-  rows = word_refusals side (eqb k 0) (k + 1) (Known before) (get_or ws k 0)
+  rows = word_refusals side (eqb k 0) (k + 1) (Some before) (get_or ws k 0)
 
   abbrev judged : Judged
   judged = judged_of side (eqb k 0) (k + 1) before (get_or ws k 0)
@@ -107,7 +106,7 @@ module _ (side : Side) (ws : List ℕ) (k : ℕ) (before : Object) (h : 0 < k �
   pub fine_word_lem : judged.verdict.number ≡ 0 → NoneApply (word_rows side ws k)
   fine_word_lem e = subst NoneApply (rows_at side ws k before h) (clear e)
 
-  pub fine_object : judged.verdict.number ≡ 0 → decode_for side (get_or ws k 0) ≡ Known (object_of (decode_for side (get_or ws k 0)))
+  pub fine_object : judged.verdict.number ≡ 0 → decode_for side (get_or ws k 0) ≡ Some (object_of (decode_for side (get_or ws k 0)))
   fine_object e = has_object (decode_for side (get_or ws k 0)) (clear e).0
 
   pub fine_standing : judged.verdict.number ≡ 0 → judged.standing ≡ standing_of (object_of (decode_for side (get_or ws k 0)))

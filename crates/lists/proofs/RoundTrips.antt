@@ -1,6 +1,7 @@
 -- "Reading a list whose shape passes, and writing what was read, gives the same words; and the other way round for objects that can be
 -- written." (STATEMENT, "Shape of a list" and "Shape of a sink list")
 -- Assumes nothing.
+use Rattle.std.specs.Prelude.{Option, Some, None}
 use mathlib.Core.Path.{◌≡◌, refl, sym, ap, ◌∙◌, subst}
 use mathlib.Core.Bool.{true, false}
 use mathlib.Core.List.{List}
@@ -12,10 +13,6 @@ use Rattle.verdicts.proofs.First.{none_append, none_left, none_right, none_at, n
 use Rattle.objects.specs.declared.Side.{Side}
 use Rattle.objects.specs.declared.Side.TheVariants.{Source}
 use Rattle.objects.specs.declared.Object.{Object}
-use Rattle.objects.specs.declared.Decoded.{Decoded}
-use Rattle.objects.specs.declared.Decoded.TheVariants.{Known}
-use Rattle.objects.specs.declared.Encoded.{Encoded}
-use Rattle.objects.specs.declared.Encoded.TheVariants.{Word, TooWide}
 use Rattle.objects.specs.Decode.{decode_of, decode_for}
 use Rattle.objects.specs.Reserved.{reserved_set}
 use Rattle.objects.specs.Encode.{encode_of, encoded_number}
@@ -40,22 +37,22 @@ use Rattle.lists.proofs.Unread.{same_shape_rows}
 
 -- ---- of any side, and of objects in any form: what is taken from a word, and what is made of an object
 
-has_word : (e : Encoded) → eqb (encoded_number e) 7 ≡ false → e ≡ Word (word_in e)
-has_word (Word w) q = refl
-has_word TooWide q = let z : true ≡ false = q in cc
+has_word : (e : Option ℕ) → eqb (encoded_number e) 7 ≡ false → e ≡ Some (word_in e)
+has_word (Some w) q = refl
+has_word None q = let z : true ≡ false = q in cc
 
-module _ {A : Type 0} (side : Side) (blank : A) (take : ℕ → A) (make : A → Encoded) where
+module _ {A : Type 0} (side : Side) (blank : A) (take : ℕ → A) (make : A → Option ℕ) where
   -- the words, each taken in its place
   abbrev pub all_taken : List ℕ → ℕ → List A
   all_taken ws n = seven_to (λ (k : ℕ). take (get_or ws k 0)) blank n
 
-  abbrev pub made_at : List A → ℕ → Encoded
+  abbrev pub made_at : List A → ℕ → Option ℕ
   made_at os k = make (get_or os k blank)
 
   -- words, objects, words: where each word comes back by itself
   module _ (l : Words) (x : NoneApply (refusals_for side l))
-      (back : (k : ℕ) → k < l.count → make (take (get_or l.words k 0)) ≡ Word (get_or l.words k 0)) where
-    place_back : (k : ℕ) → k < l.count → made_at (all_taken l.words l.count) k ≡ Word (get_or l.words k 0)
+      (back : (k : ℕ) → k < l.count → make (take (get_or l.words k 0)) ≡ Some (get_or l.words k 0)) where
+    place_back : (k : ℕ) → k < l.count → made_at (all_taken l.words l.count) k ≡ Some (get_or l.words k 0)
     place_back k h =
         ap make (filled_at (λ (j : ℕ). take (get_or l.words j 0)) blank l.count k (count_high l.count x.0) h) ∙ back k h
 
@@ -79,7 +76,7 @@ module _ {A : Type 0} (side : Side) (blank : A) (take : ℕ → A) (make : A →
         write_clear side (made_at (all_taken l.words l.count)) l.count (
           x.0,
           none_append (each_place (wide_rows (made_at (all_taken l.words l.count))) l.count) (refusals_for side (words_from (made_at (all_taken l.words l.count)) l.count))
-              (none_all (wide_rows (made_at (all_taken l.words l.count))) l.count (λ k h. (ap (λ (e : Encoded). eqb (encoded_number e) 7) (place_back k h), tt)))
+              (none_all (wide_rows (made_at (all_taken l.words l.count))) l.count (λ k h. (ap (λ (e : Option ℕ). eqb (encoded_number e) 7) (place_back k h), tt)))
               (subst (λ (m : Words). NoneApply (refusals_for side m)) (sym words_back) kept_clear),
         )
         ∙ ap written words_back
@@ -89,7 +86,7 @@ module _ {A : Type 0} (side : Side) (blank : A) (take : ℕ → A) (make : A →
 
   -- objects, words, objects: where each object comes back by itself, as what is kept of it
   module _ (kept : A → A) (os : List A) (n : ℕ) (x : NoneApply (writing_refusals side (made_at os) n))
-      (back : (k w : ℕ) → k < n → made_at os k ≡ Word w → take w ≡ kept (get_or os k blank)) where
+      (back : (k w : ℕ) → k < n → made_at os k ≡ Some w → take w ≡ kept (get_or os k blank)) where
     object_back : (k : ℕ) → k < n → take (get_or (words_from (made_at os) n).words k 0) ≡ kept (get_or os k blank)
     object_back k h =
         let fits = none_at (wide_rows (made_at os)) n k (none_left (each_place (wide_rows (made_at os)) n) (refusals_for side (words_from (made_at os) n)) x.1) h in
@@ -101,12 +98,12 @@ module _ {A : Type 0} (side : Side) (blank : A) (take : ℕ → A) (make : A →
         same_seven (λ (k : ℕ). take (get_or (words_from (made_at os) n).words k 0)) (λ (k : ℕ). kept (get_or os k blank)) blank n object_back
 
 -- the words of objects that can be written have their shape
-pub made_clear : (side : Side) (made : ℕ → Encoded) (n : ℕ) → NoneApply (writing_refusals side made n) → NoneApply (refusals_for side (words_from made n))
+pub made_clear : (side : Side) (made : ℕ → Option ℕ) (n : ℕ) → NoneApply (writing_refusals side made n) → NoneApply (refusals_for side (words_from made n))
 made_clear side made n x = none_right (each_place (wide_rows made) n) (refusals_for side (words_from made n)) x.1
 
 -- a word of a list whose shape passes has an object, and the object has that word
 module _ (side : Side) (l : Words) (x : NoneApply (refusals_for side l)) (k : ℕ) (h : k < l.count) where
-  pub word_known : decode_for side (get_or l.words k 0) ≡ Known (object_of (decode_for side (get_or l.words k 0)))
+  pub word_known : decode_for side (get_or l.words k 0) ≡ Some (object_of (decode_for side (get_or l.words k 0)))
   word_known = has_object (decode_for side (get_or l.words k 0)) (word_passes side l x k h).0
 
   -- .. and no bit of it is set that is reserved
@@ -116,7 +113,7 @@ module _ (side : Side) (l : Words) (x : NoneApply (refusals_for side l)) (k : �
       let clear : of_object (λ (o : Object). reserved_set side o (eqb k 0) w) (decode_for side w) ≡ false = (word_passes side l x k h).1.0 in
       sym (ap (of_object (λ (o : Object). reserved_set side o (eqb k 0) w)) word_known) ∙ clear
 
-  pub word_back : Words32 l → encode_of (object_of (decode_for side (get_or l.words k 0))) ≡ Word (get_or l.words k 0)
+  pub word_back : Words32 l → encode_of (object_of (decode_for side (get_or l.words k 0))) ≡ Some (get_or l.words k 0)
   word_back typed = decode_encode (get_or l.words k 0) (typed.fits k) (eqb k 0) side (object_of (decode_for side (get_or l.words k 0))) word_known word_clear
 
 -- ---- of a source
@@ -124,7 +121,7 @@ module _ (side : Side) (l : Words) (x : NoneApply (refusals_for side l)) (k : �
 abbrev taken_place : ℕ → Place
 taken_place w = record { object = object_of (decode_of w) }
 
-abbrev made_place : Place → Encoded
+abbrev made_place : Place → Option ℕ
 made_place p = encode_of p.object
 
 pub read_write : (l : Words) → Words32 l → NoneApply (shape_refusals l) → write_of (objects_of l) ≡ record { verdict = success; list = kept_words l }
@@ -135,10 +132,10 @@ write_read o x =
     read_clear Source (words_of o) (made_clear Source (encoded_at o.places) o.count x)
     ∙ ap reading (made_taken Source empty_place taken_place made_place (λ (p : Place). p) o.places o.count x back)
   where
-    placed : Decoded → Place
+    placed : Option Object → Place
     placed d = record { object = object_of d }
 
-    back : (k w : ℕ) → k < o.count → made_place (get_or o.places k empty_place) ≡ Word w → taken_place w ≡ get_or o.places k empty_place
+    back : (k w : ℕ) → k < o.count → made_place (get_or o.places k empty_place) ≡ Some w → taken_place w ≡ get_or o.places k empty_place
     back k w h e = ap placed (encode_decode (get_or o.places k empty_place).object w e)
 
     reading : List Place → Reading

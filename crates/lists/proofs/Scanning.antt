@@ -1,5 +1,6 @@
 -- At most one AVS word: the ranks do not fall from word to word, and an AVS object follows lower ranks alone.
 -- Assumes nothing.
+use Rattle.std.specs.Prelude.{Option, Some, None}
 use mathlib.Core.Path.{◌≡◌, refl, sym, ap, ap₂, ◌∙◌}
 use mathlib.Core.Bool.{Bool, true, false, not, cond, ◌&&◌, ◌||◌, and-eq-true_iff}
 use mathlib.Core.List.{List, []}
@@ -18,8 +19,6 @@ use Rattle.objects.specs.declared.Side.{Side}
 use Rattle.objects.specs.declared.Side.TheVariants.{Source}
 use Rattle.objects.specs.declared.Object.{Object}
 use Rattle.objects.specs.declared.Object.TheVariants.{Fixed, Battery, Variable, Pps, Avs}
-use Rattle.objects.specs.declared.Decoded.{Decoded}
-use Rattle.objects.specs.declared.Decoded.TheVariants.{Known, NotAllowed}
 use Rattle.objects.specs.Asking.{of_object, of_avs}
 use Rattle.objects.specs.Decode.{decode_of, decode_for}
 use Rattle.lists.specs.declared.object_rules.Standing.{Standing}
@@ -64,7 +63,7 @@ pub none_seen : (side : Side) (ws : List ℕ) → Alone side ws 0 0 0
 none_seen side ws = record { only = record { within = omega arith; others = λ k h f r. omega arith }; lower = λ h. refl }
 
 module _ (side : Side) (ws : List ℕ) (i place : ℕ) (s : Standing) (a : Alone side ws i s.rank place) (b : Before side ws i s)
-    (x : NoneApply (word_rows side ws i)) (o : Object) (d : decode_for side (get_or ws i 0) ≡ Known o) where
+    (x : NoneApply (word_rows side ws i)) (o : Object) (d : decode_for side (get_or ws i 0) ≡ Some o) where
   -- past the first word, the ranks do not fall
   follows : 0 < i → may_follow b.object o ≡ true
   follows h =
@@ -89,7 +88,7 @@ module _ (side : Side) (ws : List ℕ) (i place : ℕ) (s : Standing) (a : Alone
       only = record {
         within = omega (arith, a.only.within);
         others = λ k h f r. ⊎_elim
-            (λ e. eqb-false (rank_of o) 3 q (sym (ap (λ (y : Decoded). rank_of (object_of y)) (ap (λ (j : ℕ). decode_for side (get_or ws j 0)) e ∙ d)) ∙ r))
+            (λ e. eqb-false (rank_of o) 3 q (sym (ap (λ (y : Option Object). rank_of (object_of y)) (ap (λ (j : ℕ). decode_for side (get_or ws j 0)) e ∙ d)) ∙ r))
             (λ l. a.only.others k l f r) (let l : k ≤ i = omega arith in eq-or-lt_of_le l);
       };
       lower = λ h. none_before (λ l. omega (arith, h, rank_in b.object b.stands, (rises b.object o (follows l)).0));
@@ -107,13 +106,13 @@ refused_number side ws n i v h e f z =
 
 -- ---- what is no AVS word has no row of 17
 
-pub not_ranked : (asked : Ma10 → Ma10 → Bool) (d : Decoded) → (rank_of (object_of d) ≡ 3 → ⊥) → of_object (of_avs asked) d ≡ false
-not_ranked asked (Known (Fixed f p v a)) g = refl
-not_ranked asked (Known (Battery x m p)) g = refl
-not_ranked asked (Known (Variable x m a)) g = refl
-not_ranked asked (Known (Pps l x m a)) g = refl
-not_ranked asked (Known (Avs p l h)) g = absurd (g refl)
-not_ranked asked NotAllowed g = refl
+pub not_ranked : (asked : Ma10 → Ma10 → Bool) (d : Option Object) → (rank_of (object_of d) ≡ 3 → ⊥) → of_object (of_avs asked) d ≡ false
+not_ranked asked (Some (Fixed f p v a)) g = refl
+not_ranked asked (Some (Battery x m p)) g = refl
+not_ranked asked (Some (Variable x m a)) g = refl
+not_ranked asked (Some (Pps l x m a)) g = refl
+not_ranked asked (Some (Avs p l h)) g = absurd (g refl)
+not_ranked asked None g = refl
 
 module _ (ws : List ℕ) (n place : ℕ) (o : OnlyAvs Source ws n place) where
   elsewhere : (k : ℕ) → k < n → (k + 1 ≡ place → ⊥) → NoneApply (avs_rows ws n k)

@@ -1,5 +1,7 @@
 -- Places past the count are not read: lists that agree up to the count get the same answer.
 -- Assumes nothing.
+use Rattle.std.specs.Prelude.{Option, Some, None}
+use Rattle.objects.specs.declared.Object.{Object}
 use mathlib.Core.Path.{◌≡◌, refl, sym, ap, ap₂, ◌∙◌}
 use mathlib.Core.Bool.{Bool, true, false, not, ◌&&◌, ◌||◌}
 use mathlib.Core.List.{List, [], ◌∷◌, ◌++◌}
@@ -14,11 +16,8 @@ use Rattle.steps.specs.declared.Ma10.{Ma10}
 use Rattle.objects.specs.declared.Side.{Side}
 use Rattle.objects.specs.declared.Side.TheVariants.{Source, Sink}
 use Rattle.objects.specs.declared.Object.TheVariants.{Fixed, Battery, Variable, Pps, Avs}
-use Rattle.objects.specs.declared.Decoded.{Decoded}
-use Rattle.objects.specs.declared.Decoded.TheVariants.{Known, NotAllowed}
 use Rattle.objects.specs.Asking.{of_object}
 use Rattle.objects.specs.Decode.{decode_of, decode_for}
-use Rattle.objects.specs.declared.Encoded.{Encoded}
 use Rattle.objects.specs.Encode.{encode_of, encoded_number}
 use Rattle.lists.specs.declared.Words.{Words}
 use Rattle.lists.specs.declared.Place.{Place}
@@ -55,15 +54,15 @@ same_fixed ws vs (suc k) e mv current =
     (same_fixed ws vs k (λ j h. e j (omega arith)) mv current) (e k (lt-suc_self k))
 
 module _ (ws vs : List ℕ) (n : ℕ) (e : (k : ℕ) → k < n → get_or ws k 0 ≡ get_or vs k 0) where
-  same_differs : (d : Decoded) → of_object (avs_differs ws n) d ≡ of_object (avs_differs vs n) d
+  same_differs : (d : Option Object) → of_object (avs_differs ws n) d ≡ of_object (avs_differs vs n) d
   unfolding avs_differs
-  same_differs (Known (Fixed f p v a)) = refl
-  same_differs (Known (Battery x m p)) = refl
-  same_differs (Known (Variable x m a)) = refl
-  same_differs (Known (Pps l x m a)) = refl
-  same_differs (Known (Avs p l h)) =
+  same_differs (Some (Fixed f p v a)) = refl
+  same_differs (Some (Battery x m p)) = refl
+  same_differs (Some (Variable x m a)) = refl
+  same_differs (Some (Pps l x m a)) = refl
+  same_differs (Some (Avs p l h)) =
       ap₂ (λ (a b : Bool). not (a && (eqb h.0 0 || b))) (same_fixed ws vs n e 15000 l) (same_fixed ws vs n e 20000 h)
-  same_differs NotAllowed = refl
+  same_differs None = refl
 
   same_avs_rows : (k : ℕ) → k < n → avs_rows ws n k ≡ avs_rows vs n k
   same_avs_rows k h =
@@ -132,10 +131,10 @@ read_unread side l m a =
 
 -- ---- writing, by what each object is written as
 
-module _ (made other : ℕ → Encoded) (n : ℕ) (e : (k : ℕ) → k < n → made k ≡ other k) where
+module _ (made other : ℕ → Option ℕ) (n : ℕ) (e : (k : ℕ) → k < n → made k ≡ other k) where
   same_wide_rows : each_place (wide_rows made) n ≡ each_place (wide_rows other) n
   same_wide_rows = same_places (wide_rows made) (wide_rows other) n (λ k h. ap (wide_row k) (e k h)) where
-    wide_row : ℕ → Encoded → List Refusal
+    wide_row : ℕ → Option ℕ → List Refusal
     wide_row k x = refusal (eqb (encoded_number x) 7) 7 (k + 1) ∷ []
 
   pub same_made : words_from made n ≡ words_from other n

@@ -1,5 +1,6 @@
 -- The cases of writing, by the side and by what each object is written as.
 -- Assumes nothing.
+use Rattle.std.specs.Prelude.{Option, Some, None}
 use mathlib.Core.Path.{◌≡◌, refl, sym, ap, ◌∙◌, subst}
 use mathlib.Core.Bool.{true, false}
 use mathlib.Core.List.{List, [], ◌∷◌}
@@ -11,8 +12,6 @@ use Rattle.verdicts.specs.declared.Verdict.{Verdict}
 use Rattle.verdicts.specs.Refusals.{Refusal, refusal, each_place, first_of, success, verdict_of, NoneApply}
 use Rattle.verdicts.proofs.First.{hit, miss, onward, onto, all_missed, refused_so, none_yet, none_more, decided, none_applied, passes, numbered, number_not_0, numbered_rest, numbered_append, numbered_places}
 use Rattle.objects.specs.declared.Side.{Side}
-use Rattle.objects.specs.declared.Encoded.{Encoded}
-use Rattle.objects.specs.declared.Encoded.TheVariants.{Word, TooWide}
 use Rattle.objects.specs.Encode.{encoded_number}
 use Rattle.lists.specs.declared.Words.{Words}
 use Rattle.lists.specs.declared.Listing.{Listing}
@@ -23,12 +22,12 @@ use Rattle.lists.specs.Making.{made_from}
 use Rattle.lists.proofs.Sevens.{none_filled, one_filled}
 use Rattle.lists.proofs.Shapes.{shape_numbered, as_shape_refused, as_shape_passes}
 
-abbrev pub written_as : (ℕ → Encoded) → ℕ → Listing
+abbrev pub written_as : (ℕ → Option ℕ) → ℕ → Listing
 written_as made n = record { verdict = success; list = words_from made n }
 
 -- ---- the words made, one after the other
 
-module _ (made : ℕ → Encoded) (n : ℕ) where
+module _ (made : ℕ → Option ℕ) (n : ℕ) where
   abbrev pub made_rows : List Refusal
   made_rows = refusal (bad_count n) 10 0 ∷ each_place (wide_rows made) n
 
@@ -39,7 +38,7 @@ module _ (made : ℕ → Encoded) (n : ℕ) where
   unfolding made_from
   not_made e = sym (hit write_refused _ 10 0 _ e)
 
-module _ (made : ℕ → Encoded) where
+module _ (made : ℕ → Option ℕ) where
   -- no object before place i + 1 is too wide, and these are the words so far
   pub record MadeTo (i : ℕ) (ws : List ℕ) : Type 0 where
     pub fit : NoneApply (each_place (wide_rows made) i)
@@ -48,20 +47,20 @@ module _ (made : ℕ → Encoded) where
   pub none_made : MadeTo 0 (replicate 7 0)
   none_made = record { fit = none_yet (wide_rows made); words = none_filled (λ (k : ℕ). word_in (made k)) 0 }
 
-  pub one_made : (i w : ℕ) (ws : List ℕ) → i < 7 → MadeTo i ws → made i ≡ Word w → MadeTo (i + 1) (set ws i w)
+  pub one_made : (i w : ℕ) (ws : List ℕ) → i < 7 → MadeTo i ws → made i ≡ Some w → MadeTo (i + 1) (set ws i w)
   one_made i w ws h m e = record {
-    fit = none_more (wide_rows made) i m.fit (ap (λ (x : Encoded). eqb (encoded_number x) 7) e, tt);
+    fit = none_more (wide_rows made) i m.fit (ap (λ (x : Option ℕ). eqb (encoded_number x) 7) e, tt);
     words =
         ap (λ (vs : List ℕ). set vs i w) m.words
         ∙ ap (set (seven_to (λ (k : ℕ). word_in (made k)) 0 i) i) (sym (ap word_in e))
         ∙ one_filled (λ (k : ℕ). word_in (made k)) 0 i h;
   }
 
-  pub one_wide : (i n : ℕ) (ws : List ℕ) → bad_count n ≡ false → i < n → MadeTo i ws → made i ≡ TooWide → write_refused 7 (i + 1) ≡ made_from made n
+  pub one_wide : (i n : ℕ) (ws : List ℕ) → bad_count n ≡ false → i < n → MadeTo i ws → made i ≡ None → write_refused 7 (i + 1) ≡ made_from made n
   unfolding made_from
   one_wide i n ws b h m e =
       sym (miss write_refused _ 10 0 _ b ∙ decided (wide_rows made) write_refused i n _ h m.fit
-      (λ (x : Listing). hit write_refused x 7 (i + 1) [] (ap (λ (y : Encoded). eqb (encoded_number y) 7) e)) _)
+      (λ (x : Listing). hit write_refused x 7 (i + 1) [] (ap (λ (y : Option ℕ). eqb (encoded_number y) 7) e)) _)
 
   pub all_made : (i n : ℕ) (ws : List ℕ) → bad_count n ≡ false → i ≡ n → MadeTo i ws
       → record { verdict = success; list = record { words = ws; count = n } } ≡ made_from made n
@@ -94,7 +93,7 @@ finished_first side l (refusal false n p ∷ rs) t = finished_first side l rs (n
 
 -- ---- the cases in order
 
-module _ (side : Side) (made : ℕ → Encoded) (n : ℕ) where
+module _ (side : Side) (made : ℕ → Option ℕ) (n : ℕ) where
   pub write_numbered : numbered (writing_refusals side made n) ≡ true
   write_numbered = numbered_append (made_rows made n) (refusals_for side (words_from made n)) (made_numbered made n) (shape_numbered side (words_from made n))
 

@@ -1,11 +1,10 @@
 -- How the loops of the shape check and of writing go (STATEMENT, "Shape of a list"): parts of `shape_of` and `write_of`, named for the
 -- functions that work them out.
 -- Assumes nothing.
-use Rattle.std.specs.Prelude.{◌≡◌, ℕ, Bool, cond, eqb}
+use Rattle.std.specs.Prelude.{◌≡◌, ℕ, Bool, cond, eqb, Some}
 use Rattle.verdicts.specs.Refusals.{first_of, verdict, success}
 use Rattle.objects.specs.declared.Side.{Side}
 use Rattle.objects.specs.declared.Object.{Object}
-use Rattle.objects.specs.declared.Decoded.TheVariants.{Known}
 use Rattle.objects.specs.Decode.{decode_for, zero_object}
 use Rattle.lists.specs.declared.object_rules.Standing.{Standing}
 use Rattle.lists.specs.declared.shape_check.Judged.{Judged}
@@ -34,7 +33,7 @@ fine_word o = record { verdict = success; standing = standing_of o }
 
 unfoldable pub judged_of : Side → Bool → ℕ → Object → ℕ → Judged
 judged_of side first place before w =
-    first_of refused_word (word_refusals side first place (Known before) w) (fine_word (object_of (decode_for side w)))
+    first_of refused_word (word_refusals side first place (Some before) w) (fine_word (object_of (decode_for side w)))
 
 -- an answer by a standing alone is right for every object that stands so
 abbrev pub Follows : Standing → Object → Bool → Type 0

@@ -1,12 +1,11 @@
 -- Reading a list (STATEMENT, "Lists in hand": "It refuses exactly what the shape check refuses, with the same number and place."). The
 -- objects of a sink list in the form of the source side: C takes them so.
 -- Assumes nothing.
-use Rattle.std.specs.Prelude.{List, ℕ, get_or, replicate}
+use Rattle.std.specs.Prelude.{List, ℕ, get_or, replicate, Option}
 use Rattle.verdicts.specs.Refusals.{first_of, verdict, success}
 use Rattle.objects.specs.declared.Side.{Side}
 use Rattle.objects.specs.declared.Side.TheVariants.{Source}
 use Rattle.objects.specs.declared.Object.{Object}
-use Rattle.objects.specs.declared.Decoded.{Decoded}
 use Rattle.objects.specs.Decode.{decode_of, decoded_says, zero_object}
 use Rattle.lists.specs.declared.Words.{Words}
 use Rattle.lists.specs.declared.Place.{Place}
@@ -23,7 +22,7 @@ abbrev pub no_objects : Objects
 no_objects = record { places = replicate 7 empty_place; count = 0 }
 
 -- the object of a word; a list whose shape passes has one in every word
-abbrev pub object_of : Decoded → Object
+abbrev pub object_of : Option Object → Object
 object_of d = (decoded_says d).1
 
 abbrev pub place_of : List ℕ → ℕ → Place

@@ -1,7 +1,7 @@
 -- The shape of a list (STATEMENT, "Shape of a list" and "Shape of a sink list"; numbers and order from "Refusal numbers"). The side
 -- decides which kinds there are, which bits are reserved, and whether AVS has to agree; all else is the same for both.
 -- Assumes nothing.
-use Rattle.std.specs.Prelude.{Bool, true, false, not, ◌&&◌, ◌||◌, List, [], ◌∷◌, ◌++◌, ℕ, zero, suc, ◌+◌, ◌-◌, get_or, ltb, eqb}
+use Rattle.std.specs.Prelude.{Bool, true, false, not, ◌&&◌, ◌||◌, List, [], ◌∷◌, ◌++◌, ℕ, zero, suc, ◌+◌, ◌-◌, get_or, ltb, eqb, Option, Some, None}
 use Rattle.verdicts.specs.declared.Verdict.{Verdict}
 use Rattle.verdicts.specs.Refusals.{Refusal, refusal, each_place, first_of, verdict, success, verdict_of}
 use Rattle.steps.specs.Units.{mv50}
@@ -9,8 +9,6 @@ use Rattle.steps.specs.declared.Ma10.{Ma10}
 use Rattle.objects.specs.declared.Side.{Side}
 use Rattle.objects.specs.declared.Side.TheVariants.{Source, Sink}
 use Rattle.objects.specs.declared.Object.{Object}
-use Rattle.objects.specs.declared.Decoded.{Decoded}
-use Rattle.objects.specs.declared.Decoded.TheVariants.{Known, NotAllowed}
 use Rattle.objects.specs.Asking.{of_object, of_fixed, of_avs}
 use Rattle.objects.specs.Decode.{decode_of, decode_for, decoded_number}
 use Rattle.objects.specs.Reserved.{reserved_set}
@@ -27,13 +25,13 @@ unfoldable pub is_fixed_5_V : ℕ → Bool
 is_fixed_5_V w = of_object (of_fixed (λ v a. eqb (mv50 v) 5000)) (decode_of w)
 
 -- 14: "Each word is compared with the one right before it", so it says nothing of the first
-abbrev pub out_of_order : Bool → Decoded → Decoded → Bool
+abbrev pub out_of_order : Bool → Option Object → Option Object → Bool
 out_of_order true before d = false
-out_of_order false (Known o) d = of_object (λ (x : Object). not (may_follow o x)) d
-out_of_order false NotAllowed d = false
+out_of_order false (Some o) d = of_object (λ (x : Object). not (may_follow o x)) d
+out_of_order false None d = false
 
 -- one word, with the one before it: "for each word in turn 12, 13, 15, 16, 14"
-abbrev pub word_refusals : Side → Bool → ℕ → Decoded → ℕ → List Refusal
+abbrev pub word_refusals : Side → Bool → ℕ → Option Object → ℕ → List Refusal
 word_refusals side first place before w =
     refusal (eqb (decoded_number (decode_for side w)) 12) 12 place
     ∷ refusal (of_object (λ (o : Object). reserved_set side o first w) (decode_for side w)) 13 place

@@ -5,7 +5,7 @@ ghost use Rattle.lists.specs.Promises.{Reads};
 
 use crate::shape_check::readable;
 use crate::{EMPTY_PLACE, Objects, Place, Reading, Words};
-use objects::{Decoded, Side};
+use objects::Side;
 
 // The objects of so many words, each in its place; empty places past them.
 fn decode_words(list: Words, count: u8) -> Objects
@@ -18,7 +18,7 @@ fn decode_words(list: Words, count: u8) -> Objects
         let at = i as usize;
         let w = list.words[at];
         let d = objects::decode(w);
-        if let Decoded::Known(object) = d {
+        if let Some(object) = d {
             places[at] = Place { object };
         }
         i += 1;

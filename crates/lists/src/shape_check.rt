@@ -11,7 +11,7 @@ ghost use Rattle.lists.specs.Promises.{MiscountsPlaces, Shapes, ShapesFor, Shape
 
 use crate::object_rules::{Standing, may_follow, out_of_bounds, over_100_w, standing_of};
 use crate::{Shaped, Words};
-use objects::{Decoded, Object, Side};
+use objects::{Object, Side};
 use steps::{Ma10, Mv50, Mv100};
 use verdicts::Verdict;
 
@@ -82,7 +82,7 @@ fn judge(side: Side, first: bool, place: u8, before: Standing, w: u32) -> Judged
     ensures { Judges side first place before w result }
 {
     let d = objects::decode_for(side, w);
-    let Decoded::Known(object) = d else {
+    let Some(object) = d else {
         return refused(verdicts::KIND_NOT_ALLOWED, place);
     };
     if objects::reserved_bit_set(side, object, first, w) {

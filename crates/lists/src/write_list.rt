@@ -6,7 +6,7 @@ ghost use Rattle.lists.specs.Promises.{Refuses, Finishes, Writes};
 
 use crate::shape_check::{bad_count, shape_for};
 use crate::{Listing, NO_WORDS, Objects, Words};
-use objects::{Encoded, Side};
+use objects::Side;
 use verdicts::Verdict;
 
 // A listing of this number and place, whose list is empty and all zero: how a call that gives a list refuses.
@@ -34,7 +34,7 @@ fn encode_places(list: Objects) -> Listing
         let place = list.places[at];
         let object = place.object;
         let e = objects::encode(object);
-        let Encoded::Word(w) = e else {
+        let Some(w) = e else {
             return refuse(verdicts::FIELD_TOO_WIDE, i + 1);
         };
         words[at] = w;

@@ -1,5 +1,6 @@
 -- The kind of a word by how large the word is: a number in its highest bits is told by its bounds.
 -- Assumes nothing.
+use Rattle.std.specs.Prelude.{Option}
 use mathlib.Core.Path.{◌≡◌, refl, ap, ap₂, ◌∙◌}
 use mathlib.Core.Bool.{Bool, true, false, cond}
 use Prim.Native.Nat.{ℕ, ◌+◌, ◌*◌, ◌/◌, ◌%◌, ◌≤◌, ◌<◌}
@@ -10,7 +11,6 @@ use borrow.Author.Tests.{ltb-true, ltb-false}
 use Rattle.objects.specs.Bits.{bits}
 use Rattle.objects.specs.declared.Side.TheVariants.{Sink}
 use Rattle.objects.specs.declared.Object.{Object}
-use Rattle.objects.specs.declared.Decoded.{Decoded}
 use Rattle.objects.specs.Decode.{pps_of, by_kind, kind_bits, decode_of, decoded_says, zero_object, not_allowed_for, word_says_for}
 use Rattle.objects.proofs.Cases.{kind_short, kind_long, short_is, long_is}
 
@@ -31,7 +31,7 @@ unfolding bits
 four_are w k h low high = ap (λ (n : ℕ). n % 16) (quotient_is w 268435456 k (omega arith) low high) ∙ mod-eq_of_lt h
 
 -- what is to be said of a word of a sink, by its number and what it decodes to
-abbrev said : ℕ → Decoded → ℕ × Object
+abbrev said : ℕ → Option Object → ℕ × Object
 said n d = cond (not_allowed_for Sink n) (12, zero_object) (0, (decoded_says d).1)
 
 pub short_of_sink : (w k : ℕ) → k < 3 → k * 1073741824 ≤ w → w < (k + 1) * 1073741824 → word_says_for Sink w ≡ said k (by_kind k w)

@@ -1,5 +1,6 @@
 -- `decode_of` by the numbers in the kind's bits, and by the one number that `kind_bits` makes of them.
 -- Assumes nothing.
+use Rattle.std.specs.Prelude.{Option, Some, None}
 use mathlib.Core.Path.{◌≡◌, refl, ap, sym, ◌∙◌, subst}
 use mathlib.Core.Bool.{Bool, true, false, cond}
 use mathlib.Core.Logic.{◌⊎◌, inl, inr, ⊎_elim}
@@ -11,8 +12,6 @@ use borrow.Author.Tests.{eqb-true, eqb-false, ne_eqb}
 use Rattle.objects.specs.Bits.{bits}
 use Rattle.objects.specs.Decode.{by_augmented, by_kind, kind_bits, is_kind, decode_of, kind_number}
 use Rattle.objects.specs.declared.Object.{Object}
-use Rattle.objects.specs.declared.Decoded.{Decoded}
-use Rattle.objects.specs.declared.Decoded.TheVariants.{Known, NotAllowed}
 use Rattle.objects.proofs.Taking.{bits_lt}
 
 pub kind_is : (w k : ℕ) → bits w 31 30 ≡ k → decode_of w ≡ by_kind k w
@@ -100,9 +99,9 @@ module _ (w : ℕ) where
 -- ---- the number of a kind agrees with what a word is decoded to
 
 -- of what a word is decoded to: that of its object, or one of the two that are not allowed
-abbrev Tells : ℕ → Decoded → Type 0
-Tells n (Known o) = n ≡ kind_number o
-Tells n NotAllowed = (n ≡ 13) ⊎ (n ≡ 15)
+abbrev Tells : ℕ → Option Object → Type 0
+Tells n (Some o) = n ≡ kind_number o
+Tells n None = (n ≡ 13) ⊎ (n ≡ 15)
 
 short_tells : (k w : ℕ) → k < 3 → Tells k (by_kind k w)
 short_tells zero w h = refl
@@ -124,11 +123,11 @@ tells w =
     (λ x. both x.1 (augmented_is w (bits w 29 28) x.0 refl) (long_tells (bits w 29 28) w (bits_lt w 29 28)))
     (short_or_long w)
   where
-    both : {n k : ℕ} {d e : Decoded} → n ≡ k → d ≡ e → Tells k e → Tells n d
-    both {n} {k} {d} {e} p q t = subst (λ (c : Decoded). Tells n c) (sym q) (subst (λ (j : ℕ). Tells j e) (sym p) t)
+    both : {n k : ℕ} {d e : Option Object} → n ≡ k → d ≡ e → Tells k e → Tells n d
+    both {n} {k} {d} {e} p q t = subst (λ (c : Option Object). Tells n c) (sym q) (subst (λ (j : ℕ). Tells j e) (sym p) t)
 
-pub kind_of_object : (w : ℕ) (o : Object) → decode_of w ≡ Known o → kind_bits w ≡ kind_number o
+pub kind_of_object : (w : ℕ) (o : Object) → decode_of w ≡ Some o → kind_bits w ≡ kind_number o
 kind_of_object w o e = subst (Tells (kind_bits w)) e (tells w)
 
-pub kind_of_none : (w : ℕ) → decode_of w ≡ NotAllowed → (kind_bits w ≡ 13) ⊎ (kind_bits w ≡ 15)
+pub kind_of_none : (w : ℕ) → decode_of w ≡ None → (kind_bits w ≡ 13) ⊎ (kind_bits w ≡ 15)
 kind_of_none w e = subst (Tells (kind_bits w)) e (tells w)

@@ -1,5 +1,6 @@
 -- A word that was made of an object has no reserved bit set; after the first word of a list this asks that it has no flags.
 -- Assumes nothing.
+use Rattle.std.specs.Prelude.{Some}
 use mathlib.Core.Path.{◌≡◌, refl, ap, ap₂, ◌∙◌, subst}
 use mathlib.Core.Bool.{Bool, true, false, not, ◌&&◌}
 use mathlib.Core.List.{List}
@@ -14,7 +15,6 @@ use Rattle.objects.specs.Layout.{Field, all_fit, joined}
 use Rattle.objects.specs.Encode.{fields_of, if_fit, word_of, encode_of}
 use Rattle.objects.specs.declared.Object.{Object}
 use Rattle.objects.specs.declared.Object.TheVariants.{Fixed, Battery, Variable, Pps, Avs}
-use Rattle.objects.specs.declared.Encoded.TheVariants.{Word}
 use Rattle.objects.proofs.Rows.{gapless, total, joined_lt}
 use Rattle.objects.proofs.RoundTrip.{made}
 
@@ -38,7 +38,7 @@ eight_of_low w e f =
 all_clear : (w : ℕ) → bits w 26 25 ≡ 0 → bits w 16 16 ≡ 0 → bits w 7 7 ≡ 0 → not (clear w 26 25 && clear w 16 16 && clear w 7 7) ≡ false
 all_clear w a b d = rw (eq-eqb (bits w 26 25) 0 a, eq-eqb (bits w 16 16) 0 b, eq-eqb (bits w 7 7) 0 d)
 
-pub made_clear : (o : Object) (w : ℕ) (first : Bool) → encode_of o ≡ Word w → flagless first o → reserved_set Source o first w ≡ false
+pub made_clear : (o : Object) (w : ℕ) (first : Bool) → encode_of o ≡ Some w → flagless first o → reserved_set Source o first w ≡ false
 unfolding reserved_set
 made_clear (Fixed f p v a) w true e t =
     let r = made (fields_of (Fixed f p v a)) w refl e in
@@ -64,14 +64,14 @@ made_clear (Avs p l h) w first e t =
 
 -- ---- a word has 32 bits
 
-fitting : (fs : List Field) (w : ℕ) → gapless 0 fs ≡ true → word_of fs ≡ Word w → w < 2 ^ total fs
+fitting : (fs : List Field) (w : ℕ) → gapless 0 fs ≡ true → word_of fs ≡ Some w → w < 2 ^ total fs
 unfolding word_of
 fitting fs w t e = go (all_fit fs) refl e where
-  go : (b : Bool) → all_fit fs ≡ b → if_fit b (joined fs) ≡ Word w → w < 2 ^ total fs
+  go : (b : Bool) → all_fit fs ≡ b → if_fit b (joined fs) ≡ Some w → w < 2 ^ total fs
   go true q r = let j : joined fs ≡ w = cc in subst (λ (x : ℕ). x < 2 ^ total fs) j (joined_lt fs t q)
   go false q r = let z : ◌≡◌ {A = ℕ} 0 1 = cc in absurd (omega arith)
 
-pub made_lt : (o : Object) (w : ℕ) → encode_of o ≡ Word w → w < 2 ^ 32
+pub made_lt : (o : Object) (w : ℕ) → encode_of o ≡ Some w → w < 2 ^ 32
 made_lt (Fixed f p v a) w e = fitting (fields_of (Fixed f p v a)) w refl e
 made_lt (Battery x m p) w e = fitting (fields_of (Battery x m p)) w refl e
 made_lt (Variable x m a) w e = fitting (fields_of (Variable x m a)) w refl e

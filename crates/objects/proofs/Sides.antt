@@ -1,5 +1,6 @@
 -- What a sink's list may hold is what a source's may hold too: a word that has its object there has it here, and with more bits clear.
 -- Assumes nothing.
+use Rattle.std.specs.Prelude.{Option, Some, None}
 use mathlib.Core.Path.{◌≡◌, refl, subst}
 use mathlib.Core.Bool.{Bool, true, false, ◌&&◌, and-eq-true_iff}
 use Prim.Native.Nat.{ℕ, zero, suc}
@@ -12,18 +13,16 @@ use Rattle.objects.specs.declared.Side.{Side}
 use Rattle.objects.specs.declared.Side.TheVariants.{Source, Sink}
 use Rattle.objects.specs.declared.Object.{Object}
 use Rattle.objects.specs.declared.Object.TheVariants.{Fixed, Battery, Variable, Pps, Avs}
-use Rattle.objects.specs.declared.Decoded.{Decoded}
-use Rattle.objects.specs.declared.Decoded.TheVariants.{Known, NotAllowed}
 use Rattle.objects.proofs.SetBits.{clear_within}
 
-pub known_for : (side : Side) (d : Decoded) (o : Object) → allowed_for side d ≡ Known o → d ≡ Known o
+pub known_for : (side : Side) (d : Option Object) (o : Object) → allowed_for side d ≡ Some o → d ≡ Some o
 known_for Source d o e = e
-known_for Sink (Known (Fixed f p v a)) o e = e
-known_for Sink (Known (Battery x m p)) o e = e
-known_for Sink (Known (Variable x m a)) o e = e
-known_for Sink (Known (Pps l x m a)) o e = e
-known_for Sink (Known (Avs p l h)) o e = cc
-known_for Sink NotAllowed o e = e
+known_for Sink (Some (Fixed f p v a)) o e = e
+known_for Sink (Some (Battery x m p)) o e = e
+known_for Sink (Some (Variable x m a)) o e = e
+known_for Sink (Some (Pps l x m a)) o e = e
+known_for Sink (Some (Avs p l h)) o e = cc
+known_for Sink None o e = e
 
 -- what is clear in more bits is clear in fewer
 abbrev within : ℕ → ℕ → ℕ → ℕ → Bool
@@ -76,9 +75,9 @@ Bare (Avs p l h) = Unit {0}
 
 -- so it is with each object that a word can decode to
 module _ (first : Bool) (w : ℕ) where
-  abbrev BareIf : Decoded → Type 0
-  BareIf (Known o) = reserved_clear Sink o first w ≡ true → Bare o
-  BareIf NotAllowed = Unit {0}
+  abbrev BareIf : Option Object → Type 0
+  BareIf (Some o) = reserved_clear Sink o first w ≡ true → Bare o
+  BareIf None = Unit {0}
 
   augmented_bare : (m : ℕ) → BareIf (by_augmented m w)
   augmented_bare zero = no_limited w
@@ -92,6 +91,6 @@ module _ (first : Bool) (w : ℕ) where
   kind_bare (suc (suc zero)) = λ t. tt
   kind_bare (suc (suc (suc n))) = augmented_bare (bits w 29 28)
 
-  pub sink_bare : (o : Object) → decode_for Sink w ≡ Known o → reserved_set Sink o first w ≡ false → Bare o
+  pub sink_bare : (o : Object) → decode_for Sink w ≡ Some o → reserved_set Sink o first w ≡ false → Bare o
   unfolding decode_of reserved_set
   sink_bare o e t = subst BareIf (known_for Sink (decode_of w) o e) (kind_bare (bits w 31 30)) (not-false (reserved_clear Sink o first w) t)

@@ -1,19 +1,17 @@
 -- What is asked of an object, or of an object of one kind (STATEMENT, "Object words"), says nothing of anything else: there the answer is
 -- no.
 -- Assumes nothing.
-use Rattle.std.specs.Prelude.{Bool, false}
+use Rattle.std.specs.Prelude.{Bool, false, Option, Some, None}
 use Rattle.steps.specs.declared.Mv50.{Mv50}
 use Rattle.steps.specs.declared.Mv100.{Mv100}
 use Rattle.steps.specs.declared.Ma10.{Ma10}
 use Rattle.steps.specs.declared.Ma50.{Ma50}
 use Rattle.objects.specs.declared.Object.{Object}
 use Rattle.objects.specs.declared.Object.TheVariants.{Fixed, Battery, Variable, Pps, Avs}
-use Rattle.objects.specs.declared.Decoded.{Decoded}
-use Rattle.objects.specs.declared.Decoded.TheVariants.{Known, NotAllowed}
 
-abbrev pub of_object : (Object → Bool) → Decoded → Bool
-of_object asked (Known o) = asked o
-of_object asked NotAllowed = false
+abbrev pub of_object : (Object → Bool) → Option Object → Bool
+of_object asked (Some o) = asked o
+of_object asked None = false
 
 -- asked of the voltage and the current of a fixed object
 abbrev pub of_fixed : (Mv50 → Ma10 → Bool) → Object → Bool

@@ -1,13 +1,11 @@
 -- What a word says (STATEMENT, "Object words").
 -- Assumes nothing.
-use Rattle.std.specs.Prelude.{Bool, cond, ◌||◌, ℕ, zero, suc, eqb}
+use Rattle.std.specs.Prelude.{Bool, cond, ◌||◌, ℕ, zero, suc, eqb, Option, Some, None}
 use Rattle.objects.specs.Bits.{bits}
 use Rattle.objects.specs.declared.Object.{Object}
 use Rattle.objects.specs.declared.Object.TheVariants.{Fixed, Battery, Variable, Pps, Avs}
 use Rattle.objects.specs.declared.Side.{Side}
 use Rattle.objects.specs.declared.Side.TheVariants.{Source, Sink}
-use Rattle.objects.specs.declared.Decoded.{Decoded}
-use Rattle.objects.specs.declared.Decoded.TheVariants.{Known, NotAllowed}
 
 -- ---- "The fields of each kind", at their bits
 
@@ -49,36 +47,36 @@ kind_number (Pps l x m a) = 12
 kind_number (Avs p l h) = 14
 
 -- 11b: 00b is PPS and 10b SPR AVS; 01b is "not allowed (EPR AVS)" and 11b "not allowed (no kind)"
-abbrev pub by_augmented : ℕ → ℕ → Decoded
-by_augmented zero w = Known (pps_of w)
-by_augmented (suc zero) w = NotAllowed
-by_augmented (suc (suc zero)) w = Known (avs_of w)
-by_augmented (suc (suc (suc k))) w = NotAllowed
+abbrev pub by_augmented : ℕ → ℕ → Option Object
+by_augmented zero w = Some (pps_of w)
+by_augmented (suc zero) w = None
+by_augmented (suc (suc zero)) w = Some (avs_of w)
+by_augmented (suc (suc (suc k))) w = None
 
-abbrev pub by_kind : ℕ → ℕ → Decoded
-by_kind zero w = Known (fixed_of w)
-by_kind (suc zero) w = Known (battery_of w)
-by_kind (suc (suc zero)) w = Known (variable_of w)
+abbrev pub by_kind : ℕ → ℕ → Option Object
+by_kind zero w = Some (fixed_of w)
+by_kind (suc zero) w = Some (battery_of w)
+by_kind (suc (suc zero)) w = Some (variable_of w)
 by_kind (suc (suc (suc k))) w = by_augmented (bits w 29 28) w
 
-unfoldable pub decode_of : ℕ → Decoded
+unfoldable pub decode_of : ℕ → Option Object
 decode_of w = by_kind (bits w 31 30) w
 
 -- ---- by the side whose list the word stands in: a sink has "no AVS object" (STATEMENT, "Sink objects")
 
-abbrev pub except_avs : Decoded → Decoded
-except_avs (Known (Fixed f p v a)) = Known (Fixed f p v a)
-except_avs (Known (Battery x m p)) = Known (Battery x m p)
-except_avs (Known (Variable x m a)) = Known (Variable x m a)
-except_avs (Known (Pps l x m a)) = Known (Pps l x m a)
-except_avs (Known (Avs p l h)) = NotAllowed
-except_avs NotAllowed = NotAllowed
+abbrev pub except_avs : Option Object → Option Object
+except_avs (Some (Fixed f p v a)) = Some (Fixed f p v a)
+except_avs (Some (Battery x m p)) = Some (Battery x m p)
+except_avs (Some (Variable x m a)) = Some (Variable x m a)
+except_avs (Some (Pps l x m a)) = Some (Pps l x m a)
+except_avs (Some (Avs p l h)) = None
+except_avs None = None
 
-abbrev pub allowed_for : Side → Decoded → Decoded
+abbrev pub allowed_for : Side → Option Object → Option Object
 allowed_for Source d = d
 allowed_for Sink d = except_avs d
 
-abbrev pub decode_for : Side → ℕ → Decoded
+abbrev pub decode_for : Side → ℕ → Option Object
 decode_for side w = allowed_for side (decode_of w)
 
 -- ---- what each answer says: its refusal number, and the object
@@ -88,11 +86,11 @@ abbrev pub zero_object : Object
 zero_object = Fixed 0 0 (record { 0 = 0 }) (record { 0 = 0 })
 
 -- 12: "a kind that is not allowed". "On a refusal everything else in the answer is zero".
-abbrev pub decoded_says : Decoded → ℕ × Object
-decoded_says (Known o) = (0, o)
-decoded_says NotAllowed = (12, zero_object)
+abbrev pub decoded_says : Option Object → ℕ × Object
+decoded_says (Some o) = (0, o)
+decoded_says None = (12, zero_object)
 
-abbrev pub decoded_number : Decoded → ℕ
+abbrev pub decoded_number : Option Object → ℕ
 decoded_number d = (decoded_says d).0
 
 -- ---- what is to be said of a word

@@ -1,12 +1,10 @@
 -- The word of an object (STATEMENT, "Object words"): its fields at their bit places, the lowest first. "Putting an object together sets
 -- its reserved bits to zero", and the kind stands last.
 -- Assumes nothing.
-use Rattle.std.specs.Prelude.{Bool, true, false, cond, List, [], ◌∷◌, ℕ}
+use Rattle.std.specs.Prelude.{Bool, true, false, cond, List, [], ◌∷◌, ℕ, Option, Some, None}
 use Rattle.objects.specs.Layout.{Field, field, all_fit, joined}
 use Rattle.objects.specs.declared.Object.{Object}
 use Rattle.objects.specs.declared.Object.TheVariants.{Fixed, Battery, Variable, Pps, Avs}
-use Rattle.objects.specs.declared.Encoded.{Encoded}
-use Rattle.objects.specs.declared.Encoded.TheVariants.{Word, TooWide}
 
 -- battery and variable share their bit places
 abbrev pub three_fields : ℕ → ℕ → ℕ → ℕ → List Field
@@ -31,25 +29,25 @@ fields_of (Pps l x m a) =
 fields_of (Avs p l h) =
     field h.0 9 0 ∷ field l.0 19 10 ∷ field 0 25 20 ∷ field p 27 26 ∷ field 2 29 28 ∷ field 3 31 30 ∷ []
 
-abbrev pub if_fit : Bool → ℕ → Encoded
-if_fit true w = Word w
-if_fit false w = TooWide
+abbrev pub if_fit : Bool → ℕ → Option ℕ
+if_fit true w = Some w
+if_fit false w = None
 
 -- "refuses with 7 when a field does not fit its bits; nothing is cut off"
-unfoldable pub word_of : List Field → Encoded
+unfoldable pub word_of : List Field → Option ℕ
 word_of fs = if_fit (all_fit fs) (joined fs)
 
-abbrev pub encode_of : Object → Encoded
+abbrev pub encode_of : Object → Option ℕ
 encode_of o = word_of (fields_of o)
 
 -- ---- what each answer says: its refusal number, and the word
 
 -- 7: "a field does not fit its bits". "On a refusal everything else in the answer is zero".
-abbrev pub encoded_says : Encoded → ℕ × ℕ
-encoded_says (Word w) = (0, w)
-encoded_says TooWide = (7, 0)
+abbrev pub encoded_says : Option ℕ → ℕ × ℕ
+encoded_says (Some w) = (0, w)
+encoded_says None = (7, 0)
 
-abbrev pub encoded_number : Encoded → ℕ
+abbrev pub encoded_number : Option ℕ → ℕ
 encoded_number e = (encoded_says e).0
 
 -- what is to be said of fields that go into a word

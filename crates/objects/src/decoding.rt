@@ -5,7 +5,7 @@ ghost use Rattle.std.specs.Prelude.{◌≡◌};
 
 use crate::{
     BITS_AVS, BITS_BATTERY, BITS_EPR_AVS, BITS_FIXED, BITS_PPS, BITS_UNASSIGNED, BITS_VARIABLE,
-    Decoded, Object, Side,
+    Object, Side,
 };
 use steps::{Ma10, Ma50, Mv50, Mv100, Mw250};
 
@@ -61,24 +61,24 @@ fn avs(w: u32) -> Object
     }
 }
 
-// The object of a word. `NotAllowed` (refusal 12) where its kind is one that no SPR list may hold. It does not look at reserved
+// The object of a word. `None` (refusal 12) where its kind is one that no SPR list may hold. It does not look at reserved
 // bits: `reserved_bit_set` does.
-pub fn decode(w: u32) -> Decoded
+pub fn decode(w: u32) -> Option<Object>
     ensures { Decodes w result }
 {
     let kind = (w >> 30) & 0x3;
     match kind {
-        BITS_FIXED => Decoded::Known(fixed(w)),
-        BITS_BATTERY => Decoded::Known(battery(w)),
-        BITS_VARIABLE => Decoded::Known(variable(w)),
+        BITS_FIXED => Some(fixed(w)),
+        BITS_BATTERY => Some(battery(w)),
+        BITS_VARIABLE => Some(variable(w)),
         _ => {
             let augmented = (w >> 28) & 0xF;
             match augmented {
-                BITS_PPS => Decoded::Known(pps(w)),
-                BITS_EPR_AVS => Decoded::NotAllowed,
-                BITS_AVS => Decoded::Known(avs(w)),
-                BITS_UNASSIGNED => Decoded::NotAllowed,
-                _ => Decoded::NotAllowed,
+                BITS_PPS => Some(pps(w)),
+                BITS_EPR_AVS => None,
+                BITS_AVS => Some(avs(w)),
+                BITS_UNASSIGNED => None,
+                _ => None,
             }
         }
     }
@@ -99,27 +99,27 @@ pub fn is_kind(w: u32, kind: u32) -> bool
 }
 
 // The object of a word in the list of a sink. Its four kinds are the lowest numbers of bits 31..28, so they are told by how large the word is.
-fn decode_sink(w: u32) -> Decoded
+fn decode_sink(w: u32) -> Option<Object>
     ensures { DecodesFor Side.Sink w result }
 {
     if w < 0x4000_0000 {
-        return Decoded::Known(fixed(w));
+        return Some(fixed(w));
     }
     if w < 0x8000_0000 {
-        return Decoded::Known(battery(w));
+        return Some(battery(w));
     }
     if w < 0xC000_0000 {
-        return Decoded::Known(variable(w));
+        return Some(variable(w));
     }
     if w < 0xD000_0000 {
-        return Decoded::Known(pps(w));
+        return Some(pps(w));
     }
-    Decoded::NotAllowed
+    None
 }
 
-// The object of a word in a list of this side. `NotAllowed` (refusal 12) where its kind is one that no such list may hold: those of
+// The object of a word in a list of this side. `None` (refusal 12) where its kind is one that no such list may hold: those of
 // `decode`, and for a sink AVS too.
-pub fn decode_for(side: Side, w: u32) -> Decoded
+pub fn decode_for(side: Side, w: u32) -> Option<Object>
     ensures { DecodesFor side w result }
 {
     match side {

@@ -96,21 +96,3 @@ pub enum Object {
         high: Ma10,
     },
 }
-
-// What a word says: an object, or a kind that no SPR list may have (refusal 12).
-#[derive(Clone, Copy)]
-pub enum Decoded {
-    // The object.
-    Known(Object),
-    // The bits of EPR AVS, or those that no kind has.
-    NotAllowed,
-}
-
-// The word of an object, or a field too wide for its bits (refusal 7).
-#[derive(Clone, Copy)]
-pub enum Encoded {
-    // The word.
-    Word(u32),
-    // A field is too wide for its bits.
-    TooWide,
-}

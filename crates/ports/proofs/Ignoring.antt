@@ -1,12 +1,11 @@
 -- Ignored bits of a request change nothing that a port holds.
 -- Assumes nothing.
+use Rattle.std.specs.Prelude.{Option, Some, None}
 use mathlib.Core.Path.{◌≡◌, refl, ap, ap₂, ◌∙◌}
 use Prim.Native.Nat.{ℕ, ◌*◌, max}
 use Rattle.steps.specs.Rounding.{up_of}
 use Rattle.objects.specs.declared.Object.{Object}
 use Rattle.objects.specs.declared.Object.TheVariants.{Fixed, Battery, Variable, Pps, Avs}
-use Rattle.objects.specs.declared.Decoded.{Decoded}
-use Rattle.objects.specs.declared.Decoded.TheVariants.{Known, NotAllowed}
 use Rattle.lists.specs.declared.Words.{Words}
 use Rattle.requests.specs.Limits.{volts_of, operating_of}
 use Rattle.requests.specs.Answering.{named_by}
@@ -26,11 +25,11 @@ module _ (w v : ℕ) where
   same_half_watts o same =
       ap₂ (λ (mv ma : ℕ). up_of (mv * ma) 500000) (same_voltage o same) (ap operating_of (same_request w v o same))
 
-  same_power : (d : Decoded) (present : ℕ) → AgreeOutside (ignored_for d) w v → power_in d present w ≡ power_in d present v
-  same_power (Known o) present same = ap (cut_for o present) (same_half_watts o same)
-  same_power NotAllowed present same = refl
+  same_power : (d : Option Object) (present : ℕ) → AgreeOutside (ignored_for d) w v → power_in d present w ≡ power_in d present v
+  same_power (Some o) present same = ap (cut_for o present) (same_half_watts o same)
+  same_power None present same = refl
 
 pub held_ignores : (l : Words) (present w v : ℕ) → AgreeOutside (ignored_for (named_by l w)) w v → held_for l present w ≡ held_for l present v
 unfolding held_for power_of
 held_ignores l present w v same =
-    ap (max 15) (same_power w v (named_by l w) present same ∙ ap (λ (d : Decoded). power_in d present v) (names_same l w v same))
+    ap (max 15) (same_power w v (named_by l w) present same ∙ ap (λ (d : Option Object). power_in d present v) (names_same l w v same))

@@ -1,5 +1,6 @@
 -- The power of a request, from the figures as they stand in their steps, and by the kind of what was asked.
 -- Assumes nothing.
+use Rattle.std.specs.Prelude.{Option, Some, None}
 use mathlib.Core.Path.{◌≡◌, refl, sym, ap, ◌∙◌, subst}
 use Prim.Native.Nat.{ℕ, zero, suc, ◌*◌, ◌≤◌, ◌<◌, min}
 use native.Mathlib.Nat.{zero-mul, mul-le-mul, min-le_right}
@@ -16,8 +17,6 @@ use Rattle.steps.proofs.StepTests.{product}
 use Rattle.objects.proofs.Taking.{bits_lt}
 use Rattle.objects.specs.Bits.{bits}
 use Rattle.objects.specs.Decode.{by_augmented, by_kind, decode_of}
-use Rattle.objects.specs.declared.Decoded.{Decoded}
-use Rattle.objects.specs.declared.Decoded.TheVariants.{Known, NotAllowed}
 use Rattle.objects.specs.declared.Object.{Object}
 use Rattle.objects.specs.declared.Object.TheVariants.{Fixed, Battery, Variable, Pps, Avs}
 use Rattle.requests.specs.declared.Request.{Request}
@@ -84,14 +83,14 @@ module _ (w present : ℕ) where
 
 -- ---- an object that a word stands for: the power of a request to it fits 16 bits
 
-abbrev voltage_in : Decoded → ℕ → ℕ
-voltage_in (Known o) word = voltage_for o word
-voltage_in NotAllowed word = 0
+abbrev voltage_in : Option Object → ℕ → ℕ
+voltage_in (Some o) word = voltage_for o word
+voltage_in None word = 0
 
 -- the widest voltage that is asked for has 12 bits of 25 mV; that of a fixed object has 10 bits of 50 mV
-voltage_known : (w word : ℕ) (o : Object) → decode_of w ≡ Known o → voltage_for o word ≤ 102375
+voltage_known : (w word : ℕ) (o : Object) → decode_of w ≡ Some o → voltage_for o word ≤ 102375
 unfolding decode_of
-voltage_known w word o e = subst (λ (d : Decoded). voltage_in d word ≤ 102375) e (by_kind_lem (bits w 31 30)) where
+voltage_known w word o e = subst (λ (d : Option Object). voltage_in d word ≤ 102375) e (by_kind_lem (bits w 31 30)) where
   by_augmented_lem : (k : ℕ) → voltage_in (by_augmented k w) word ≤ 102375
   by_augmented_lem zero = omega (arith, bits_lt word 20 9)
   by_augmented_lem (suc zero) = omega arith
@@ -119,7 +118,7 @@ cut_at_most (Variable x m a) present n = omega arith
 cut_at_most (Pps l x m a) present n = min-le_right present n
 cut_at_most (Avs p l h) present n = omega arith
 
-pub power_fits : (w word present : ℕ) (o : Object) → decode_of w ≡ Known o → power word present o < 65536
+pub power_fits : (w word present : ℕ) (o : Object) → decode_of w ≡ Some o → power word present o < 65536
 power_fits w word present o e =
     let most : voltage_for o word * operating_of (request_of o word) ≤ 102375 * 255750 = mul-le-mul (voltage_known w word o e) (operating_known o word) in
     let up = up_least (voltage_for o word * operating_of (request_of o word)) 500000 65535 (omega arith) (omega (arith, most)) in

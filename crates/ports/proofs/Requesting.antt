@@ -1,5 +1,6 @@
 -- A request by value: the object that it names in the list of its row, what that list answers, and the decisions in their order.
 -- Assumes nothing.
+use Rattle.std.specs.Prelude.{Option, Some, None}
 use mathlib.Core.Path.{◌≡◌, refl, sym, ap, ◌∙◌}
 use mathlib.Core.Bool.{Bool, true, false, not, cond}
 use mathlib.Core.List.{[], ◌∷◌, ◌++◌}
@@ -15,8 +16,6 @@ use Rattle.steps.specs.Ranges.{within}
 use Rattle.steps.proofs.RangeLaws.{inside, at_least, at_most}
 use Rattle.objects.specs.declared.Side.TheVariants.{Source}
 use Rattle.objects.specs.declared.Object.{Object}
-use Rattle.objects.specs.declared.Decoded.{Decoded}
-use Rattle.objects.specs.declared.Decoded.TheVariants.{Known, NotAllowed}
 use Rattle.objects.specs.Decode.{decode_of, decoded_number}
 use Rattle.lists.specs.declared.Words.{Words}
 use Rattle.lists.specs.declared.Listing.{Listing}
@@ -24,8 +23,6 @@ use Rattle.lists.specs.Shape.{shape_refusals, shape_of}
 use Rattle.lists.specs.Reading.{object_of}
 use Rattle.lists.proofs.Shapes.{too_few, miscounted, shape_verdict}
 use Rattle.rules.specs.declared.Profile.{Profile}
-use Rattle.rules.specs.declared.Placed.{Placed}
-use Rattle.rules.specs.declared.Placed.TheVariants.{Word, NoPlace}
 use Rattle.rules.specs.Profiles.{build_refusals}
 use Rattle.rules.specs.Building.{built_words, built_of}
 use Rattle.rules.specs.Placing.{placed_in}
@@ -50,34 +47,34 @@ use Rattle.ports.proofs.Judged.{stops_at, moves_on}
 
 -- ---- the object that is named
 
-abbrev pub decoded_in : Placed → Decoded
-decoded_in (Word w) = decode_of w
-decoded_in NoPlace = NotAllowed
+abbrev pub decoded_in : Option ℕ → Option Object
+decoded_in (Some w) = decode_of w
+decoded_in None = None
 
 not_0 : (n : ℕ) → (n ≡ 0 → ⊥) → 1 ≤ n
 not_0 zero f = absurd (f refl)
 not_0 (suc n) f = omega arith
 
-allowed : (o : Object) → Known o ≡ NotAllowed → ⊥
+allowed : (o : Object) → Some o ≡ None → ⊥
 allowed o e = let q = ap decoded_number e in omega (arith, q)
 
 module _ (l : Words) (w : ℕ) where
-  abbrev pub named : Decoded
-  named = cond (within 1 l.count (position_of w)) (named_by l w) NotAllowed
+  abbrev pub named : Option Object
+  named = cond (within 1 l.count (position_of w)) (named_by l w) None
 
   pub placed_named : decoded_in (placed_in l (position_of w)) ≡ named
   unfolding placed_in
   placed_named = go (within 1 l.count (position_of w)) where
-    go : (b : Bool) → decoded_in (cond b (Word (get_or l.words (position_of w - 1) 0)) NoPlace) ≡ cond b (named_by l w) NotAllowed
+    go : (b : Bool) → decoded_in (cond b (Some (get_or l.words (position_of w - 1) 0)) None) ≡ cond b (named_by l w) None
     go true = refl
     go false = refl
 
   named_there : 1 ≤ position_of w → position_of w ≤ l.count → named ≡ named_by l w
   named_there low high =
-      ap (λ (b : Bool). cond b (named_by l w) NotAllowed) (not-false (within 1 l.count (position_of w)) (inside 1 l.count (position_of w) low high))
+      ap (λ (b : Bool). cond b (named_by l w) None) (not-false (within 1 l.count (position_of w)) (inside 1 l.count (position_of w) low high))
 
   -- the list does not accept a request that names none
-  pub none_named : named ≡ NotAllowed → (answer_of l w).number ≡ 0 → ⊥
+  pub none_named : named ≡ None → (answer_of l w).number ≡ 0 → ⊥
   none_named e z =
       let a = accepted l w (accepts l w z) in
       allowed a.object (sym a.names ∙ sym (named_there a.from_1 a.to_count) ∙ e)
@@ -85,11 +82,11 @@ module _ (l : Words) (w : ℕ) where
   pub record Names (o : Object) : Type 0 where
     pub from_1 : 1 ≤ position_of w
     pub to_count : position_of w ≤ l.count
-    pub names : named_by l w ≡ Known o
+    pub names : named_by l w ≡ Some o
 
-  pub known_named : (o : Object) → named ≡ Known o → Names o
+  pub known_named : (o : Object) → named ≡ Some o → Names o
   known_named o = go (within 1 l.count (position_of w)) refl where
-    go : (b : Bool) → within 1 l.count (position_of w) ≡ b → cond b (named_by l w) NotAllowed ≡ Known o → Names o
+    go : (b : Bool) → within 1 l.count (position_of w) ≡ b → cond b (named_by l w) None ≡ Some o → Names o
     go true t e = record {
       from_1 = at_least 1 l.count (position_of w) (ap not t);
       to_count = at_most 1 l.count (position_of w) (ap not t);
@@ -114,9 +111,9 @@ built_shaped p h = go (eqb (built_of p).verdict.number 0) refl where
 
 -- ---- a request that names no object: the list is empty, or has no such place
 
-abbrev pub refused_at : Placed → Verdict
-refused_at (Word w) = verdict 20 0
-refused_at NoPlace = verdict 10 0
+abbrev pub refused_at : Option ℕ → Verdict
+refused_at (Some w) = verdict 20 0
+refused_at None = verdict 10 0
 
 pub first_place : (l : Words) → refused_at (placed_in l 1) ≡ cond (eqb l.count 0) (verdict 10 0) (verdict 20 0)
 first_place l = go (eqb l.count 0) refl where
@@ -124,7 +121,7 @@ first_place l = go (eqb l.count 0) refl where
   go true t = let none = eqb-true l.count 0 t in ap refused_at (past_count l 1 (omega (arith, none)))
   go false t = let some = not_0 l.count (eqb-false l.count 0 t) in ap refused_at (at_place l 1 (omega arith) some)
 
-module _ (y : Row) (w : ℕ) (e : named (rule_list y) w ≡ NotAllowed) where
+module _ (y : Row) (w : ℕ) (e : named (rule_list y) w ≡ None) where
   abbrev l : Words
   l = rule_list y
 
@@ -158,9 +155,9 @@ module _ (y : Row) (w : ℕ) (o : Object) (n : Names (rule_list y) w o) where
       judged (rule_list y) w (built_shaped (rule_profile y) (omega (arith, low, high))) o
       (position_good (rule_list y).count (position_of w) low high) n.names
 
-  pub held_is : new_held y w ≡ max 15 (power_in (Known o) y.present.0 w)
+  pub held_is : new_held y w ≡ max 15 (power_in (Some o) y.present.0 w)
   unfolding held_for power_of
-  held_is = ap (λ (d : Decoded). max 15 (power_in d y.present.0 w)) n.names
+  held_is = ap (λ (d : Option Object). max 15 (power_in d y.present.0 w)) n.names
 
 -- ---- the decisions, in order: the port, the list's own answer, the power that is left
 

@@ -1,12 +1,10 @@
 -- The power of a request (STATEMENT, "Calls").
 -- Assumes nothing.
-use Rattle.std.specs.Prelude.{ℕ, ◌*◌, max, min}
+use Rattle.std.specs.Prelude.{ℕ, ◌*◌, max, min, Option, Some, None}
 use Rattle.steps.specs.Units.{mv50}
 use Rattle.steps.specs.Rounding.{up_of}
 use Rattle.objects.specs.declared.Object.{Object}
 use Rattle.objects.specs.declared.Object.TheVariants.{Fixed, Battery, Variable, Pps, Avs}
-use Rattle.objects.specs.declared.Decoded.{Decoded}
-use Rattle.objects.specs.declared.Decoded.TheVariants.{Known, NotAllowed}
 use Rattle.lists.specs.declared.Words.{Words}
 use Rattle.requests.specs.Taking.{request_of}
 use Rattle.requests.specs.Limits.{volts_of, operating_of}
@@ -36,9 +34,9 @@ cut_for (Pps l x m a) present power = min present power
 cut_for (Avs p l h) present power = power
 
 -- the power of a request to what a word stands for
-abbrev pub power_in : Decoded → ℕ → ℕ → ℕ
-power_in (Known o) present w = cut_for o present (half_watts_for o w)
-power_in NotAllowed present w = 0
+abbrev pub power_in : Option Object → ℕ → ℕ → ℕ
+power_in (Some o) present w = cut_for o present (half_watts_for o w)
+power_in None present w = 0
 
 -- the power of a request on a list that was offered at P
 unfoldable pub power_of : Words → ℕ → ℕ → ℕ

@@ -1,5 +1,5 @@
 // What each sharing call decides (docs/STATEMENT.md, "Ports that share").
-ghost use Rattle.std.specs.Prelude.{◌≡◌, cond, [], ◌∷◌, ◌≤◌, min, ltb, eqb};
+ghost use Rattle.std.specs.Prelude.{◌≡◌, cond, [], ◌∷◌, ◌≤◌, min, ltb, eqb, None};
 ghost use Rattle.verdicts.specs.Refusals.{refusal, first_of, verdict};
 ghost use Rattle.steps.specs.Ranges.{within};
 ghost use Rattle.rules.specs.Building.{built_of};
@@ -17,8 +17,7 @@ use crate::refusing::{attach_fault, use_fault};
 use crate::soundness::verdict_at;
 use crate::{Change, NO_ROW, RemainingPower, Row, Standing, emptied};
 use lists::Listing;
-use objects::Decoded;
-use rules::{Placed, Profile};
+use rules::Profile;
 use steps::{HalfWatts, Ma10};
 use verdicts::Verdict;
 
@@ -62,14 +61,14 @@ fn rule_list(row: Row) -> Listing
 }
 
 // The object that a request names in the list of a row. Its word alone is made.
-fn named_object(row: Row, word: u32) -> Decoded
-    ensures { result ≡ cond (within 1 (rule_list row).count (position_of word)) (named_by (rule_list row) word) Decoded.NotAllowed }
+fn named_object(row: Row, word: u32) -> Option<Object>
+    ensures { result ≡ cond (within 1 (rule_list row).count (position_of word)) (named_by (rule_list row) word) None }
 {
     let profile = rule_profile(row);
     let place = requests::position(word);
     let placed = rules::word_at(profile, place);
-    let Placed::Word(w) = placed else {
-        return Decoded::NotAllowed;
+    let Some(w) = placed else {
+        return None;
     };
     objects::decode(w)
 }
@@ -80,7 +79,7 @@ fn no_object(row: Row) -> Verdict
 {
     let profile = rule_profile(row);
     let first = rules::word_at(profile, 1);
-    if let Placed::Word(_) = first {
+    if let Some(_) = first {
         return verdict_at(verdicts::POSITION, 0);
     }
     verdict_at(verdicts::COUNT, 0)
@@ -209,7 +208,7 @@ pub fn request(standing: Standing, row: Row, capacity: HalfWatts, port: u8, word
         return no_change(standing, fault);
     }
     let named = named_object(row, word);
-    let Decoded::Known(o) = named else {
+    let Some(o) = named else {
         let none = no_object(row);
         return no_change(standing, none);
     };

@@ -1,5 +1,6 @@
 -- What an accepted request says, for those who set a supply by it or reckon its power.
 -- Assumes nothing.
+use Rattle.std.specs.Prelude.{Option, Some}
 use mathlib.Core.Path.{◌≡◌, refl, ap, subst}
 use mathlib.Core.Bool.{Bool, true, false, ◌||◌}
 use Prim.Native.Nat.{ℕ, ◌≤◌}
@@ -9,8 +10,6 @@ use Rattle.verdicts.specs.declared.Verdict.{Verdict}
 use Rattle.verdicts.specs.Refusals.{verdict, success, NoneApply}
 use Rattle.verdicts.proofs.First.{none_applied, none_left, none_right, all_missed}
 use Rattle.objects.specs.declared.Object.{Object}
-use Rattle.objects.specs.declared.Decoded.{Decoded}
-use Rattle.objects.specs.declared.Decoded.TheVariants.{Known}
 use Rattle.lists.specs.declared.Words.{Words}
 use Rattle.lists.specs.Shape.{shape_for, shape_refusals, shape_of}
 use Rattle.lists.specs.Reading.{object_of}
@@ -26,7 +25,7 @@ pub record Accepted (l : Words) (w : ℕ) : Type 0 where
   pub from_1 : 1 ≤ position_of w
   pub to_count : position_of w ≤ l.count
   pub object : Object
-  pub names : named_by l w ≡ Known object
+  pub names : named_by l w ≡ Some object
   pub whole : whole_step object (volts_of (request_of object w)) ≡ true
   pub in_range : in_range object (volts_of (request_of object w)) ≡ true
   pub at_most : operating_of (request_of object w) ≤ advertised_at object (volts_of (request_of object w))
@@ -53,7 +52,7 @@ module _ (l : Words) (w : ℕ) (e : answer_of l w ≡ success) where
       let high = ltb-false l.count (position_of w) place.1 in
       let o = object_of (named_by l w) in
       let n = names_object l w (ap (λ (v : Verdict). v.number) shaped) low high in
-      let own : NoneApply (refusals_of o w) = subst (λ (d : Decoded). NoneApply (named_refusals d w)) n rest.1 in
+      let own : NoneApply (refusals_of o w) = subst (λ (d : Option Object). NoneApply (named_refusals d w)) n rest.1 in
       record {
         shape_passes = shaped;
         from_1 = low;

@@ -1,5 +1,6 @@
 -- The cases of the answer to a request, in order, and that every refusal has a number.
 -- Assumes nothing.
+use Rattle.std.specs.Prelude.{Option, Some, None}
 use mathlib.Core.Path.{◌≡◌, refl, ◌∙◌}
 use mathlib.Core.Bool.{true, false}
 use Prim.Native.Nat.{ℕ, ◌-◌, ◌<◌, ◌≤◌}
@@ -11,8 +12,6 @@ use Rattle.verdicts.specs.Refusals.{verdict, success, verdict_of}
 use Rattle.verdicts.proofs.First.{hit, miss, onward, numbered, numbered_append}
 use Rattle.objects.specs.declared.Side.TheVariants.{Source}
 use Rattle.objects.specs.declared.Object.{Object}
-use Rattle.objects.specs.declared.Decoded.{Decoded}
-use Rattle.objects.specs.declared.Decoded.TheVariants.{Known, NotAllowed}
 use Rattle.lists.specs.declared.Words.{Words}
 use Rattle.lists.specs.Shape.{shape_refusals, shape_of}
 use Rattle.lists.specs.Reading.{object_of}
@@ -50,9 +49,9 @@ pub judged_verdict : (o : Object) (w : ℕ) → judged_of o w ≡ verdict_of (re
 unfolding judged_of
 judged_verdict o w = refl
 
-named_numbered : (d : Decoded) (w : ℕ) → numbered (named_refusals d w) ≡ true
-named_numbered (Known o) w = refl
-named_numbered NotAllowed w = refl
+named_numbered : (d : Option Object) (w : ℕ) → numbered (named_refusals d w) ≡ true
+named_numbered (Some o) w = refl
+named_numbered None w = refl
 
 module _ (l : Words) (w : ℕ) where
   pub answer_numbered : numbered (answer_refusals l w) ≡ true
@@ -74,7 +73,7 @@ module _ (l : Words) (w : ℕ) where
     misplaced e =
         onward verdict success (shape_refusals l) _ ∙ as_shape_passes verdict Source l _ shaped ∙ hit verdict success 20 0 _ e
 
-    pub judged : (o : Object) → bad_position l.count (position_of w) ≡ false → named_by l w ≡ Known o → answer_of l w ≡ judged_of o w
+    pub judged : (o : Object) → bad_position l.count (position_of w) ≡ false → named_by l w ≡ Some o → answer_of l w ≡ judged_of o w
     unfolding answer_of judged_of
     judged o e d =
         onward verdict success (shape_refusals l) _
@@ -83,7 +82,7 @@ module _ (l : Words) (w : ℕ) where
         ∙ rw d
 
     -- a list whose shape passes has an object in every word
-    pub names_object : 1 ≤ position_of w → position_of w ≤ l.count → named_by l w ≡ Known (object_of (named_by l w))
+    pub names_object : 1 ≤ position_of w → position_of w ≤ l.count → named_by l w ≡ Some (object_of (named_by l w))
     names_object h k = has_object (named_by l w) (word_passes Source l (none_of Source l shaped) (position_of w - 1) (omega arith)).0
 
     -- .. and has no more than seven

@@ -1,5 +1,6 @@
 -- Ignored bits change no answer: a field is what its bits are, and no field that counts has an ignored bit.
 -- Assumes nothing.
+use Rattle.std.specs.Prelude.{Option, Some, None}
 use mathlib.Core.Path.{◌≡◌, refl, sym, ap, ap₂, ◌∙◌}
 use mathlib.Core.Bool.{Bool, true, false, not, ◌&&◌, ◌||◌, cond, and-eq-true_iff}
 use mathlib.Core.List.{List, [], ◌∷◌, ◌++◌, append-nil}
@@ -17,8 +18,6 @@ use Rattle.steps.specs.Units.{mv25, ma10, ma50}
 use Rattle.objects.specs.Bits.{bits}
 use Rattle.objects.specs.declared.Object.{Object}
 use Rattle.objects.specs.declared.Object.TheVariants.{Fixed, Battery, Variable, Pps, Avs}
-use Rattle.objects.specs.declared.Decoded.{Decoded}
-use Rattle.objects.specs.declared.Decoded.TheVariants.{Known, NotAllowed}
 use Rattle.objects.specs.Decode.{decode_of}
 use Rattle.lists.specs.declared.Words.{Words}
 use Rattle.lists.specs.Shape.{shape_refusals}
@@ -110,13 +109,13 @@ module _ (w v : ℕ) where
   same_request (Avs p l h) same =
       ap₂ (λ (u i : ℕ). asked.Avs (record { 0 = u }) (record { 0 = i })) (same_volts same) (same_current same)
 
-  same_position : (d : Decoded) → AgreeOutside (ignored_for d) w v → position_of w ≡ position_of v
-  same_position (Known (Fixed f p x a)) same = same_field w v beside_figures same 31 28 (omega arith) refl
-  same_position (Known (Battery x m p)) same = same_field w v beside_figures same 31 28 (omega arith) refl
-  same_position (Known (Variable x m a)) same = same_field w v beside_figures same 31 28 (omega arith) refl
-  same_position (Known (Pps l x m a)) same = same_field w v beside_voltage same 31 28 (omega arith) refl
-  same_position (Known (Avs p l h)) same = same_field w v beside_voltage same 31 28 (omega arith) refl
-  same_position NotAllowed same = same_field w v below_position same 31 28 (omega arith) refl
+  same_position : (d : Option Object) → AgreeOutside (ignored_for d) w v → position_of w ≡ position_of v
+  same_position (Some (Fixed f p x a)) same = same_field w v beside_figures same 31 28 (omega arith) refl
+  same_position (Some (Battery x m p)) same = same_field w v beside_figures same 31 28 (omega arith) refl
+  same_position (Some (Variable x m a)) same = same_field w v beside_figures same 31 28 (omega arith) refl
+  same_position (Some (Pps l x m a)) same = same_field w v beside_voltage same 31 28 (omega arith) refl
+  same_position (Some (Avs p l h)) same = same_field w v beside_voltage same 31 28 (omega arith) refl
+  same_position None same = same_field w v below_position same 31 28 (omega arith) refl
 
 -- ---- what it is refused for
 
@@ -139,9 +138,9 @@ rows_for o r excess =
 same_refusals : (w v : ℕ) (o : Object) → AgreeOutside (ignored_by o) w v → refusals_of o w ≡ refusals_of o v
 same_refusals w v o same = ap₂ (rows_for o) (same_request w v o same) (same_excess w v o same)
 
-same_named : (w v : ℕ) (d : Decoded) → AgreeOutside (ignored_for d) w v → named_refusals d w ≡ named_refusals d v
-same_named w v (Known o) same = same_refusals w v o same
-same_named w v NotAllowed same = refl
+same_named : (w v : ℕ) (d : Option Object) → AgreeOutside (ignored_for d) w v → named_refusals d w ≡ named_refusals d v
+same_named w v (Some o) same = same_refusals w v o same
+same_named w v None same = refl
 
 -- ---- the table of a list
 
@@ -157,7 +156,7 @@ module _ (l : Words) (w v : ℕ) (same : AgreeOutside (ignored_for (named_by l w
   table_same =
       ap₂ (λ (b : Bool) (own : List Refusal). shape_refusals l ++ (refusal b 20 0 ∷ own))
       (ap (bad_position l.count) same_place)
-      (same_named w v (named_by l w) same ∙ ap (λ (d : Decoded). named_refusals d v) names_same)
+      (same_named w v (named_by l w) same ∙ ap (λ (d : Option Object). named_refusals d v) names_same)
 
 -- ---- the answers
 

@@ -2,12 +2,11 @@
 -- larger current there grants it."): `AsksAvs` is such a request, `AllowsUpTo` the largest current with which it is accepted. Over the
 -- contract of the call the claim is in demands, At15V; no contract of this crate cites this page.
 -- Assumes nothing.
-use Rattle.std.specs.Prelude.{◌≡◌, ◌↔◌, ℕ, ◌<◌, ◌≤◌}
+use Rattle.std.specs.Prelude.{◌≡◌, ◌↔◌, ℕ, ◌<◌, ◌≤◌, Some}
 use Rattle.verdicts.specs.Refusals.{verdict, success}
 use Rattle.steps.specs.Units.{ma50}
 use Rattle.steps.specs.declared.Ma10.{Ma10}
 use Rattle.objects.specs.declared.Object.TheVariants.{Avs}
-use Rattle.objects.specs.declared.Decoded.TheVariants.{Known}
 use Rattle.lists.specs.declared.Words.{Words}
 use Rattle.lists.specs.Shape.{shape_of}
 use Rattle.requests.specs.Taking.{position_of, current_in}
@@ -20,7 +19,7 @@ pub record AsksAvs (l : Words) (w : ℕ) (low high : Ma10) : Type 0 where
   pub from_1 : 1 ≤ position_of w
   pub to_count : position_of w ≤ l.count
   pub peak : ℕ
-  pub names : named_by l w ≡ Known (Avs peak low high)
+  pub names : named_by l w ≡ Some (Avs peak low high)
 
 -- The request is accepted exactly when its current is at most so many mA. Above that it is refused with 24, place 0.
 pub record AllowsUpTo (l : Words) (w milliamperes : ℕ) : Type 0 where

@@ -2,12 +2,10 @@
 -- a bit that is not examined"). They change no answer: that requests which agree in all other bits get the same one is claimed over the
 -- contracts in demands, Ignored. No contract cites this page.
 -- Assumes nothing.
-use Rattle.std.specs.Prelude.{◌≡◌, Bool, true, not, ◌&&◌, cond, List, [], ◌∷◌, ◌++◌, ℕ, ◌<◌, eqb}
+use Rattle.std.specs.Prelude.{◌≡◌, Bool, true, not, ◌&&◌, cond, List, [], ◌∷◌, ◌++◌, ℕ, ◌<◌, eqb, Option, Some, None}
 use Rattle.objects.specs.Bits.{bits}
 use Rattle.objects.specs.declared.Object.{Object}
 use Rattle.objects.specs.declared.Object.TheVariants.{Fixed, Battery, Variable, Pps, Avs}
-use Rattle.objects.specs.declared.Decoded.{Decoded}
-use Rattle.objects.specs.declared.Decoded.TheVariants.{Known, NotAllowed}
 use Rattle.lists.specs.declared.Words.{Words}
 use Rattle.requests.specs.Taking.{position_of}
 use Rattle.requests.specs.Answering.{bad_position, named_by}
@@ -34,9 +32,9 @@ below_position =
     ∷ 13 ∷ 12 ∷ 11 ∷ 10 ∷ 9 ∷ 8 ∷ 7 ∷ 6 ∷ 5 ∷ 4 ∷ 3 ∷ 2 ∷ 1 ∷ 0 ∷ []
 
 -- by what the word that is named stands for; where that is no object, the list is refused whatever is asked
-abbrev pub ignored_for : Decoded → List ℕ
-ignored_for (Known o) = ignored_by o
-ignored_for NotAllowed = below_position
+abbrev pub ignored_for : Option Object → List ℕ
+ignored_for (Some o) = ignored_by o
+ignored_for None = below_position
 
 -- on a list
 abbrev pub ignored_on : Words → ℕ → List ℕ

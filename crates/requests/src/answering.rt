@@ -4,7 +4,6 @@ ghost use Rattle.requests.specs.Promises.{AnswersRequest};
 use crate::judging::{judge, placeless};
 use crate::taking::position;
 use lists::Words;
-use objects::Decoded;
 use verdicts::Verdict;
 
 // Whether a request word may be accepted on the list that was advertised. Reserved bits of the word are ignored. Refusals: those of
@@ -26,7 +25,7 @@ pub fn answer(list: Words, word: u32) -> Verdict
     let at = (named - 1) as usize;
     let w = list.words[at];
     let d = objects::decode(w);
-    let Decoded::Known(o) = d else {
+    let Some(o) = d else {
         // The shape has passed: the proof shows that this is never reached.
         return placeless(verdicts::KIND_NOT_ALLOWED);
     };

@@ -1,5 +1,6 @@
 -- The objects that are built for a profile that passes: their currents, their words, and what the shape asks of each by itself.
 -- Assumes nothing.
+use Rattle.std.specs.Prelude.{Some}
 use mathlib.Core.Path.{◌≡◌, refl, ap}
 use mathlib.Core.Bool.{Bool, true, false, not, cond, and-eq-true_iff}
 use Prim.Native.Nat.{ℕ, zero, suc, ◌*◌, ◌≤◌, ◌<◌}
@@ -9,7 +10,6 @@ use lib.Dec.{leb}
 use borrow.Author.Tests.{leb-true, lt-ltb, le-leb}
 use Rattle.verdicts.specs.Refusals.{NoneApply}
 use Rattle.steps.proofs.RoundingLaws.{down_under, down_greatest, down_le_up}
-use Rattle.objects.specs.declared.Encoded.TheVariants.{Word}
 use Rattle.objects.specs.Layout.{all_fit}
 use Rattle.objects.specs.Encode.{fields_of, word_of, encode_of}
 use Rattle.objects.proofs.Made.{flagless}
@@ -96,7 +96,7 @@ module _ (p : Profile) (x : NoneApply (profile_refusals p)) where
 
   -- each object that is built has a word
   pub has_word : (first : Bool) (s : Slot) → slot_good s ≡ true
-      → encode_of (object_for p first s) ≡ Word (word_in (encode_of (object_for p first s)))
+      → encode_of (object_for p first s) ≡ Some (word_in (encode_of (object_for p first s)))
   unfolding word_of
   has_word first s g = rw (fields_fit first s g)
 

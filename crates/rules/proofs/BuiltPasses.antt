@@ -1,5 +1,6 @@
 -- "Every list that it builds has its shape and passes the rule check of its profile." (STATEMENT, "The builder")
 -- Assumes nothing.
+use Rattle.std.specs.Prelude.{Option, Some}
 use mathlib.Core.Path.{◌≡◌, refl, sym, ap, ap₂, ◌∙◌, subst}
 use mathlib.Core.Bool.{Bool, true, false, not, cond, ◌&&◌, ◌||◌, beq, or-true}
 use mathlib.Core.List.{List, [], ◌∷◌, ◌++◌}
@@ -13,9 +14,6 @@ use Rattle.verdicts.specs.Refusals.{refusal, each_place, NoneApply}
 use Rattle.verdicts.proofs.First.{none_append, none_left, none_right, none_all}
 use Rattle.objects.specs.declared.Side.TheVariants.{Source}
 use Rattle.objects.specs.declared.Object.{Object}
-use Rattle.objects.specs.declared.Decoded.{Decoded}
-use Rattle.objects.specs.declared.Decoded.TheVariants.{Known}
-use Rattle.objects.specs.declared.Encoded.TheVariants.{Word}
 use Rattle.objects.specs.Asking.{of_object, of_fixed}
 use Rattle.objects.specs.Decode.{decode_of, decoded_number}
 use Rattle.objects.specs.Reserved.{reserved_set}
@@ -99,10 +97,10 @@ module _ (p : Profile) (b : NoneApply (build_refusals p)) where
   pub good : (k : ℕ) → k < n → slot_good (slot k) ≡ true
   good k h = good_at m high k (omega (arith, n_in))
 
-  own : (k : ℕ) → k < n → encode_of (object_for p (eqb k 0) (slot k)) ≡ Word (get_or ws k 0)
-  own k h = has_word p profile_clear (eqb k 0) (slot k) (good k h) ∙ ap Word (sym (filled_at (word_for p) 0 n k n_high h))
+  own : (k : ℕ) → k < n → encode_of (object_for p (eqb k 0) (slot k)) ≡ Some (get_or ws k 0)
+  own k h = has_word p profile_clear (eqb k 0) (slot k) (good k h) ∙ ap Some (sym (filled_at (word_for p) 0 n k n_high h))
 
-  pub known : (k : ℕ) → k < n → decode_of (get_or ws k 0) ≡ Known (object_for p (eqb k 0) (slot k))
+  pub known : (k : ℕ) → k < n → decode_of (get_or ws k 0) ≡ Some (object_for p (eqb k 0) (slot k))
   known k h = encode_decode (object_for p (eqb k 0) (slot k)) (get_or ws k 0) (own k h)
 
   in_order : (k : ℕ) → k < n → out_of_order (eqb k 0) (decode_of (get_or ws (k - 1) 0)) (decode_of (get_or ws k 0)) ≡ false
@@ -110,14 +108,14 @@ module _ (p : Profile) (b : NoneApply (build_refusals p)) where
   in_order (suc j) h =
       let e : suc j - 1 ≡ j = omega arith in
       rw (eqb-suc-zero j)
-      (ap₂ (λ (d f : Decoded). out_of_order false d f) (ap (λ (i : ℕ). decode_of (get_or ws i 0)) e ∙ known j (omega arith)) (known (suc j) h)
+      (ap₂ (λ (d f : Option Object). out_of_order false d f) (ap (λ (i : ℕ). decode_of (get_or ws i 0)) e ∙ known j (omega arith)) (known (suc j) h)
       ∙ ap not (follow_is p (eqb j 0) (eqb (suc j) 0) (slot j) (slot (suc j)) ∙ follows_at m high j (omega (arith, n_in))))
 
   words_clear : (k : ℕ) → k < n → NoneApply (word_rows Source ws k)
   words_clear k h =
       let g = good k h in
       let d = known k h in (
-        ap (λ (x : Decoded). eqb (decoded_number x) 12) d,
+        ap (λ (x : Option Object). eqb (decoded_number x) 12) d,
         (
           ap (of_object (λ (o : Object). reserved_set Source o (eqb k 0) (get_or ws k 0))) d
               ∙ made_clear (object_for p (eqb k 0) (slot k)) (get_or ws k 0) (eqb k 0) (own k h) (no_flags_later p profile_clear (eqb k 0) (slot k)),
@@ -134,7 +132,7 @@ module _ (p : Profile) (b : NoneApply (build_refusals p)) where
   unfolding object_for
   found k volts h e =
       found_at ws (volts * 1000) (record { 0 = built_current p volts }) n k h
-      (ap (of_object (fixed_with (volts * 1000) (record { 0 = built_current p volts }))) (known k h ∙ ap (λ (s : Slot). Known (object_for p (eqb k 0) s)) e)
+      (ap (of_object (fixed_with (volts * 1000) (record { 0 = built_current p volts }))) (known k h ∙ ap (λ (s : Slot). Some (object_for p (eqb k 0) s)) e)
       ∙ ap₂ ◌&&◌ (eq-eqb (volts * 20 * 50) (volts * 1000) (mul_assoc volts 20 50)) (eq-eqb (built_current p volts) (built_current p volts) refl))
 
   avs_own : (k : ℕ) → k < n → (s : Slot) → slot k ≡ s → avs_differs ws n (object_for p (eqb k 0) s) ≡ false
@@ -160,7 +158,7 @@ module _ (p : Profile) (b : NoneApply (build_refusals p)) where
   unfolding is_fixed_5_V object_for
   begins =
       ap (of_object (of_fixed (λ v a. eqb (mv50 v) 5000)))
-      (known 0 n_low ∙ ap (λ (s : Slot). Known (object_for p true s)) (first_is_5_V m (max_low p profile_clear) high))
+      (known 0 n_low ∙ ap (λ (s : Slot). Some (object_for p true s)) (first_is_5_V m (max_low p profile_clear) high))
 
   pub shape_clear : NoneApply (shape_refusals (built_words p))
   shape_clear = (

@@ -1,5 +1,6 @@
 -- How many objects of a list are so: none, one, and where.
 -- Assumes nothing.
+use Rattle.std.specs.Prelude.{Option, Some, None}
 use mathlib.Core.Path.{◌≡◌, refl, sym, ap, ap₂, ◌∙◌}
 use mathlib.Core.Bool.{Bool, true, false, cond, ◌&&◌, ◌||◌, and-eq-true_iff}
 use mathlib.Core.List.{List}
@@ -11,8 +12,6 @@ use lib.ListN.{get_or}
 use borrow.Author.Tests.{eqb-true, eq-eqb}
 use Rattle.verdicts.proofs.Bools.{either_false}
 use Rattle.objects.specs.declared.Object.{Object}
-use Rattle.objects.specs.declared.Decoded.{Decoded}
-use Rattle.objects.specs.declared.Decoded.TheVariants.{Known, NotAllowed}
 use Rattle.objects.specs.Asking.{of_object}
 use Rattle.objects.specs.Decode.{decode_of}
 use Rattle.lists.specs.declared.Words.{Words}
@@ -97,9 +96,9 @@ module _ (a b : Object → Bool) (l : Words) where
       (λ t. none_all b l (λ k h. sym (same (decode_of (get_or l.words k 0))) ∙ none_at a l t k h))
       (λ t. none_all a l (λ k h. same (decode_of (get_or l.words k 0)) ∙ none_at b l t k h))
     where
-      same : (d : Decoded) → of_object a d ≡ of_object b d
-      same (Known o) = f o
-      same NotAllowed = refl
+      same : (d : Option Object) → of_object a d ≡ of_object b d
+      same (Some o) = f o
+      same None = refl
 
   -- none is either, so none is the one and none is the other
   pub none_either : none (λ o. a o || b o) l ≡ (none a l && none b l)
@@ -109,9 +108,9 @@ module _ (a b : Object → Bool) (l : Words) where
       let r = (and-eq-true_iff (none a l) (none b l)).0 t in
       none_all (λ o. a o || b o) l (λ k h. either (decode_of (get_or l.words k 0)) ∙ ap₂ ◌||◌ (none_at a l r.0 k h) (none_at b l r.1 k h)))
     where
-      either : (d : Decoded) → of_object (λ o. a o || b o) d ≡ (of_object a d || of_object b d)
-      either (Known o) = refl
-      either NotAllowed = refl
+      either : (d : Option Object) → of_object (λ o. a o || b o) d ≡ (of_object a d || of_object b d)
+      either (Some o) = refl
+      either None = refl
 
       neither : (k : ℕ) → k < l.count → none (λ o. a o || b o) l ≡ true → (asks_at a l.words k ≡ false) × (asks_at b l.words k ≡ false)
       neither k h t = either_false _ _ (sym (either (decode_of (get_or l.words k 0))) ∙ none_at (λ o. a o || b o) l t k h)

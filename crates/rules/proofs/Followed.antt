@@ -1,5 +1,7 @@
 -- What following a list along the tables says: whether each word is what its slot asks for, and the first current that is not allowed.
 -- Assumes nothing.
+use Rattle.std.specs.Prelude.{Option}
+use Rattle.objects.specs.declared.Object.{Object}
 use mathlib.Core.Path.{◌≡◌, refl, sym, ap, ap₂, ◌∙◌, subst}
 use mathlib.Core.Bool.{Bool, true, false, ◌&&◌, cond, and-false}
 use mathlib.Core.List.{List, [], ◌∷◌, ◌++◌}
@@ -14,7 +16,6 @@ use borrow.Author.Tests.{ltb-true, ltb-false, eqb-true, eqb-false}
 use Rattle.verdicts.specs.declared.Verdict.{Verdict}
 use Rattle.verdicts.specs.Refusals.{Refusal, refusal, each_place, first_of, verdict, success, verdict_of}
 use Rattle.verdicts.proofs.First.{numbered, numbered_places, passes, stops, goes_on_lem}
-use Rattle.objects.specs.declared.Decoded.{Decoded}
 use Rattle.objects.specs.Asking.{of_object}
 use Rattle.objects.specs.Decode.{decode_of}
 use Rattle.lists.specs.declared.Words.{Words}
@@ -104,7 +105,7 @@ module _ (p : Profile) (l : Words) where
     abbrev slot : Slot
     slot = get_or ss n Nothing
 
-    abbrev word : Decoded
+    abbrev word : Option Object
     word = decode_of (get_or ws n 0)
 
     next : followed p l (suc n) ≡ step_of p l slot (followed p l n)
@@ -129,7 +130,7 @@ module _ (p : Profile) (l : Words) where
     right kept h f =
         let there : object_at l (followed p l n).at ≡ word = ap (object_at l) kept.at ∙ counted l n h in
         let on : followed p l (suc n) ≡ walk ((followed p l n).at + 1) (first_fault (followed p l n).verdict (of_object (current_refused p slot) word) ((followed p l n).at + 1)) =
-        next ∙ ap (λ (d : Decoded). step_by (followed p l n) (found_of p slot d)) there
+        next ∙ ap (λ (d : Option Object). step_by (followed p l n) (found_of p slot d)) there
         ∙ ap (λ (b : Bool). step_by (followed p l n) (cond b (cond (of_object (current_refused p slot) word) NotAllowed Allowed) Other)) f
         ∙ one_place (followed p l n) (of_object (current_refused p slot) word) in
         record {

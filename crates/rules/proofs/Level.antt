@@ -1,5 +1,6 @@
 -- The words of a list whose shape passes stand at positions that do not fall.
 -- Assumes nothing.
+use Rattle.std.specs.Prelude.{Option, Some, None}
 use mathlib.Core.Path.{◌≡◌, refl}
 use mathlib.Core.Bool.{Bool, true, false, ◌&&◌, ◌||◌, and-eq-true_iff, false≢true, true≢false}
 use mathlib.Core.Logic.{⊎_elim}
@@ -13,8 +14,6 @@ use Rattle.verdicts.specs.Refusals.{NoneApply}
 use Rattle.objects.specs.declared.Side.TheVariants.{Source}
 use Rattle.objects.specs.declared.Object.{Object}
 use Rattle.objects.specs.declared.Object.TheVariants as object
-use Rattle.objects.specs.declared.Decoded.{Decoded}
-use Rattle.objects.specs.declared.Decoded.TheVariants.{Known, NotAllowed}
 use Rattle.objects.specs.Asking.{of_object}
 use Rattle.objects.specs.Decode.{decode_of, decoded_number}
 use Rattle.lists.specs.declared.Words.{Words}
@@ -44,21 +43,21 @@ keys_level (object.Variable x m a) k l e = leb-true k l e
 keys_level (object.Avs p low h) k l e = absurd (false≢true e)
 keys_level (object.Pps g x m a) k l e = leb-true k l e
 
-after : (o x : Object) → out_of_bounds o ≡ false → may_follow o x ≡ true → position (Known o) ≤ position (Known x)
+after : (o x : Object) → out_of_bounds o ≡ false → may_follow o x ≡ true → position (Some o) ≤ position (Some x)
 unfolding may_follow
 after o x low e = go (ltb (rank_of o) (rank_of x)) refl e where
   go : (b : Bool) → ltb (rank_of o) (rank_of x) ≡ b → (b || (eqb (rank_of o) (rank_of x) && keys_may_follow x (key_of o) (key_of x))) ≡ true
-      → position (Known o) ≤ position (Known x)
+      → position (Some o) ≤ position (Some x)
   go true r t = omega (arith, ltb-true (rank_of o) (rank_of x) r, low_key o low)
   go false r t =
       let s = (and-eq-true_iff (eqb (rank_of o) (rank_of x)) (keys_may_follow x (key_of o) (key_of x))).0 t in
       omega (arith, eqb-true (rank_of o) (rank_of x) s.0, keys_level x (key_of o) (key_of x) s.1)
 
-next : (before d : Decoded) → of_object out_of_bounds before ≡ false → eqb (decoded_number d) 12 ≡ false → out_of_order false before d ≡ false
+next : (before d : Option Object) → of_object out_of_bounds before ≡ false → eqb (decoded_number d) 12 ≡ false → out_of_order false before d ≡ false
     → position before ≤ position d
-next (Known o) (Known x) low known e = after o x low (not-false _ e)
-next (Known o) NotAllowed low known e = absurd (true≢false known)
-next NotAllowed d low known e = omega arith
+next (Some o) (Some x) low known e = after o x low (not-false _ e)
+next (Some o) None low known e = absurd (true≢false known)
+next None d low known e = omega arith
 
 module _ (l : Words) (y : NoneApply (shape_refusals l)) where
   pub word_known : (k : ℕ) → k < l.count → eqb (decoded_number (decode_of (get_or l.words k 0))) 12 ≡ false

@@ -1,5 +1,6 @@
 -- What is said of each slot of a list, and of one of them, by its place: every slot once, one that fits, and words that all fit.
 -- Assumes nothing.
+use Rattle.std.specs.Prelude.{Option, Some, None}
 use mathlib.Core.Path.{◌≡◌, refl, sym, ap, ap₂, ◌∙◌}
 use mathlib.Core.Bool.{Bool, true, false, not, ◌&&◌, ◌||◌, and-eq-true_iff, and_assoc, or_assoc, or-true, true≢false, false≢true}
 use mathlib.Core.List.{List, [], ◌∷◌, ◌++◌}
@@ -11,8 +12,6 @@ use lib.Dec.{eqb}
 use lib.ListN.{length, get_or, get_or-append}
 use borrow.Author.Tests.{eqb-true, eq-eqb, not-false}
 use Rattle.objects.specs.declared.Object.{Object}
-use Rattle.objects.specs.declared.Decoded.{Decoded}
-use Rattle.objects.specs.declared.Decoded.TheVariants.{Known, NotAllowed}
 use Rattle.objects.specs.Asking.{of_object}
 use Rattle.objects.specs.Decode.{decode_of, decoded_number}
 use Rattle.lists.specs.declared.Words.{Words}
@@ -45,11 +44,11 @@ once_append (s ∷ ss) ts l = ap (λ (b : Bool). one (fits s) l && b) (once_appe
 abbrev pub asked : List Slot → ℕ → Object → Bool
 asked ss i = fits (get_or ss i Nothing)
 
-fitted_object : (ss : List Slot) (o : Object) → fits_one ss o ≡ true → Slotted (asked ss) (length ss) (Known o)
+fitted_object : (ss : List Slot) (o : Object) → fits_one ss o ≡ true → Slotted (asked ss) (length ss) (Some o)
 fitted_object [] o t = absurd (false≢true t)
 fitted_object (s ∷ ss) o t = go (λ u. fitted_object ss o u) (fits s o) refl t where
-  go : (fits_one ss o ≡ true → Slotted (asked ss) (length ss) (Known o)) → (b : Bool) → fits s o ≡ b → (b || fits_one ss o) ≡ true
-      → Slotted (asked (s ∷ ss)) (length (s ∷ ss)) (Known o)
+  go : (fits_one ss o ≡ true → Slotted (asked ss) (length ss) (Some o)) → (b : Bool) → fits s o ≡ b → (b || fits_one ss o) ≡ true
+      → Slotted (asked (s ∷ ss)) (length (s ∷ ss)) (Some o)
   go later true e u = record { at = 0; below = omega arith; so = e }
   go later false e u = let r = later u in record { at = suc r.at; below = omega (arith, r.below); so = r.so }
 
@@ -57,18 +56,18 @@ fitted_object (s ∷ ss) o t = go (λ u. fitted_object ss o u) (fits s o) refl t
 abbrev pub stray : List Slot → Object → Bool
 stray ss o = not (fits_one ss o)
 
-pub fitted : (ss : List Slot) (d : Decoded) → eqb (decoded_number d) 12 ≡ false → of_object (stray ss) d ≡ false → Slotted (asked ss) (length ss) d
-fitted ss (Known o) known t = fitted_object ss o (not-false _ t)
-fitted ss NotAllowed known t = absurd (true≢false known)
+pub fitted : (ss : List Slot) (d : Option Object) → eqb (decoded_number d) 12 ≡ false → of_object (stray ss) d ≡ false → Slotted (asked ss) (length ss) d
+fitted ss (Some o) known t = fitted_object ss o (not-false _ t)
+fitted ss None known t = absurd (true≢false known)
 
 fits_one_lem : (ss : List Slot) (o : Object) (i : ℕ) → i < length ss → fits (get_or ss i Nothing) o ≡ true → fits_one ss o ≡ true
 fits_one_lem [] o i h e = absurd (omega arith)
 fits_one_lem (s ∷ ss) o zero h e = ap (λ (b : Bool). b || fits_one ss o) e
 fits_one_lem (s ∷ ss) o (suc i) h e = ap (λ (b : Bool). fits s o || b) (fits_one_lem ss o i (omega arith) e) ∙ or-true (fits s o)
 
-pub not_stray : (ss : List Slot) (d : Decoded) (i : ℕ) → i < length ss → of_object (fits (get_or ss i Nothing)) d ≡ true → of_object (stray ss) d ≡ false
-not_stray ss (Known o) i h e = ap not (fits_one_lem ss o i h e)
-not_stray ss NotAllowed i h e = refl
+pub not_stray : (ss : List Slot) (d : Option Object) (i : ℕ) → i < length ss → of_object (fits (get_or ss i Nothing)) d ≡ true → of_object (stray ss) d ≡ false
+not_stray ss (Some o) i h e = ap not (fits_one_lem ss o i h e)
+not_stray ss None i h e = refl
 
 pub fits_append : (ss ts : List Slot) (o : Object) → fits_one (ss ++ ts) o ≡ (fits_one ss o || fits_one ts o)
 fits_append [] ts o = refl

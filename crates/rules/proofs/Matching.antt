@@ -1,6 +1,7 @@
 -- Slots that rise and words that do not fall match place by place where each word has a slot and each slot is had once. Induction takes
 -- the last of both away. A word has the position of each slot that it fits.
 -- Assumes nothing.
+use Rattle.std.specs.Prelude.{Option}
 use mathlib.Core.Path.{◌≡◌, refl, sym, ap, ◌∙◌}
 use mathlib.Core.Bool.{Bool, true, false, true≢false}
 use mathlib.Core.List.{List}
@@ -12,14 +13,13 @@ use lib.Dec.{ltb}
 use lib.ListN.{get_or}
 use borrow.Author.Tests.{ltb-true, ltb-false}
 use Rattle.objects.specs.declared.Object.{Object}
-use Rattle.objects.specs.declared.Decoded.{Decoded}
 use Rattle.objects.specs.Asking.{of_object}
 use Rattle.objects.specs.Decode.{decode_of}
 use Rattle.rules.specs.Sets.{how_many}
 use Rattle.rules.proofs.Counting.{Found, asks_at, not_counted, counted, nowhere, somewhere, once}
 
 -- one of the first m slots fits a word; `asked` is what each slot asks for
-pub record Slotted (asked : ℕ → Object → Bool) (m : ℕ) (d : Decoded) : Type 0 where
+pub record Slotted (asked : ℕ → Object → Bool) (m : ℕ) (d : Option Object) : Type 0 where
   pub at : ℕ
   pub below : at < m
   pub so : of_object (asked at) d ≡ true

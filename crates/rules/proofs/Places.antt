@@ -1,5 +1,6 @@
 -- The word at a place of a built list, found by counting along the tables.
 -- Assumes nothing.
+use Rattle.std.specs.Prelude.{Option, Some, None}
 use mathlib.Core.Path.{◌≡◌, refl, sym, ap, ◌∙◌, subst}
 use mathlib.Core.Bool.{Bool, true, false, cond, ◌&&◌, and-eq-true_iff, true≢false, false≢true}
 use mathlib.Core.List.{List, [], ◌∷◌}
@@ -14,8 +15,6 @@ use Rattle.lists.specs.Writing.{no_words}
 use Rattle.lists.proofs.Sevens.{filled_at}
 use Rattle.rules.specs.declared.tables.Rail.{Rail}
 use Rattle.rules.specs.declared.Profile.{Profile}
-use Rattle.rules.specs.declared.Placed.{Placed}
-use Rattle.rules.specs.declared.Placed.TheVariants.{Word, NoPlace}
 use Rattle.rules.specs.Tables.{Slot, Nothing, Fixed, Avs, Prog, row, rails, exceeds, base_slots, prog_slots, slots, holds}
 use Rattle.rules.specs.Building.{slot_word, word_for, built_count, built_words}
 use Rattle.rules.specs.Placing.{placed_in, full_at, placed_at}
@@ -94,14 +93,14 @@ module _ (m k : ℕ) (high : m ≤ 200) (h : k < after_rails m) where
 -- ---- a word at its place, and a place past the last
 
 module _ (p : Profile) (n at : ℕ) where
-  abbrev chosen : Bool → Placed
-  chosen b = cond b (Word (word_for p at)) NoPlace
+  abbrev chosen : Bool → Option ℕ
+  chosen b = cond b (Some (word_for p at)) None
 
-  pub word_there : (s : Slot) (word : ℕ) → Stands p.max.0 at s → at < n → word ≡ slot_word p (eqb at 0) s → Word word ≡ full_at p n at
+  pub word_there : (s : Slot) (word : ℕ) → Stands p.max.0 at s → at < n → word ≡ slot_word p (eqb at 0) s → Some word ≡ full_at p n at
   unfolding full_at
-  word_there s word st h e = ap Word (e ∙ ap (slot_word p (eqb at 0)) (sym st.slot)) ∙ ap chosen (sym (lt-ltb at n h))
+  word_there s word st h e = ap Some (e ∙ ap (slot_word p (eqb at 0)) (sym st.slot)) ∙ ap chosen (sym (lt-ltb at n h))
 
-  pub none_there : n ≤ at → NoPlace ≡ full_at p n at
+  pub none_there : n ≤ at → None ≡ full_at p n at
   unfolding full_at
   none_there h = ap chosen (sym (le-ltb at n h))
 
@@ -148,19 +147,19 @@ module _ (p : Profile) where
 
 -- ---- places of a list, from 1
 
-pub place_0 : (l : Words) (place : ℕ) → place < 1 → placed_in l place ≡ NoPlace
+pub place_0 : (l : Words) (place : ℕ) → place < 1 → placed_in l place ≡ None
 unfolding placed_in
 place_0 l place h = rw (lt-leb 1 place h)
 
-pub past_count : (l : Words) (place : ℕ) → l.count < place → placed_in l place ≡ NoPlace
+pub past_count : (l : Words) (place : ℕ) → l.count < place → placed_in l place ≡ None
 unfolding placed_in
 past_count l place h = rw (le-leb 1 place (omega arith), lt-leb place l.count h)
 
-pub at_place : (l : Words) (place : ℕ) → 1 ≤ place → place ≤ l.count → placed_in l place ≡ Word (get_or l.words (place - 1) 0)
+pub at_place : (l : Words) (place : ℕ) → 1 ≤ place → place ≤ l.count → placed_in l place ≡ Some (get_or l.words (place - 1) 0)
 unfolding placed_in
 at_place l place h k = rw (le-leb 1 place h, le-leb place l.count k)
 
-pub none_placed : (place : ℕ) → placed_in no_words place ≡ NoPlace
+pub none_placed : (place : ℕ) → placed_in no_words place ≡ None
 none_placed zero = place_0 no_words 0 (omega arith)
 none_placed (suc place) = past_count no_words (suc place) (omega arith)
 
@@ -172,7 +171,7 @@ module _ (p : Profile) (place : ℕ) (seven : built_count p ≤ 7) (h : 1 ≤ pl
     go true t =
         let l = ltb-true (place - 1) (built_count p) t in
         ap (chosen p (built_count p) (place - 1)) t
-        ∙ ap Word (sym (filled_at (word_for p) 0 (built_count p) (place - 1) seven l))
+        ∙ ap Some (sym (filled_at (word_for p) 0 (built_count p) (place - 1) seven l))
         ∙ sym (at_place (built_words p) place h (omega (arith, h, l)))
     go false t =
         let l = ltb-false (place - 1) (built_count p) t in

@@ -1,5 +1,6 @@
 -- One step along the tables: what stands at the next place decides it. And what each kind of slot asks of an object, in the object's own step.
 -- Assumes nothing.
+use Rattle.std.specs.Prelude.{Option, Some, None}
 use mathlib.Core.Path.{◌≡◌, refl, sym, ap, ap₂, ◌∙◌}
 use mathlib.Core.Bool.{Bool, true, false, ◌&&◌, cond}
 use Prim.Native.Nat.{ℕ, ◌+◌, ◌*◌, ◌≤◌, ◌<◌}
@@ -17,8 +18,6 @@ use Rattle.steps.specs.declared.Ma10.{Ma10}
 use Rattle.steps.specs.declared.Ma50.{Ma50}
 use Rattle.objects.specs.declared.Object.{Object}
 use Rattle.objects.specs.declared.Object.TheVariants as object
-use Rattle.objects.specs.declared.Decoded.{Decoded}
-use Rattle.objects.specs.declared.Decoded.TheVariants.{Known, NotAllowed}
 use Rattle.objects.specs.Decode.{decode_of}
 use Rattle.lists.specs.declared.Words.{Words}
 use Rattle.rules.specs.declared.Profile.{Profile}
@@ -39,22 +38,22 @@ module _ (l : Words) (k : ℕ) where
   unfolding object_at
   counted h = rw (lt-ltb k l.count h)
 
-  pub past : l.count ≤ k → object_at l k ≡ NotAllowed
+  pub past : l.count ≤ k → object_at l k ≡ None
   unfolding object_at
   past h = rw (le-ltb k l.count h)
 
 -- ---- what stands there
 
 module _ (p : Profile) (s : Slot) where
-  pub found_none : found_of p s NotAllowed ≡ Other
+  pub found_none : found_of p s None ≡ Other
   unfolding found_of
   found_none = refl
 
-  pub found_other : (o : Object) → fits s o ≡ false → found_of p s (Known o) ≡ Other
+  pub found_other : (o : Object) → fits s o ≡ false → found_of p s (Some o) ≡ Other
   unfolding found_of
   found_other o e = rw e
 
-  pub found_right : (o : Object) (refused : Bool) → fits s o ≡ true → current_refused p s o ≡ refused → found_of p s (Known o) ≡ cond refused found.NotAllowed Allowed
+  pub found_right : (o : Object) (refused : Bool) → fits s o ≡ true → current_refused p s o ≡ refused → found_of p s (Some o) ≡ cond refused found.NotAllowed Allowed
   unfolding found_of
   found_right o refused e f = rw (e, f)
 
@@ -77,7 +76,7 @@ module _ (w : Walk) where
   unfolding step_by
   step_first e = rw (eq-eqb w.verdict.number 0 e)
 
-pub step_is : (p : Profile) (l : Words) (s : Slot) (w : Walk) (d : Decoded) (f : Found) → d ≡ object_at l w.at → f ≡ found_of p s d → step_by w f ≡ step_of p l s w
+pub step_is : (p : Profile) (l : Words) (s : Slot) (w : Walk) (d : Option Object) (f : Found) → d ≡ object_at l w.at → f ≡ found_of p s d → step_by w f ≡ step_of p l s w
 unfolding step_of
 step_is p l s w d f e g = ap (step_by w) (g ∙ ap (found_of p s) e)
 

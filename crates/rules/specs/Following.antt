@@ -2,11 +2,10 @@
 -- work them out. That they decide the set of objects and find the first current that is not allowed is proved in proofs/Followed and
 -- proofs/SetLaw.
 -- Assumes nothing.
-use Rattle.std.specs.Prelude.{Bool, true, not, ◌&&◌, ◌||◌, cond, List, ℕ, zero, suc, ◌+◌, ltb, eqb, get_or, length}
+use Rattle.objects.specs.declared.Object.{Object}
+use Rattle.std.specs.Prelude.{Bool, true, not, ◌&&◌, ◌||◌, cond, List, ℕ, zero, suc, ◌+◌, ltb, eqb, get_or, length, Option, None}
 use Rattle.verdicts.specs.declared.Verdict.{Verdict}
 use Rattle.verdicts.specs.Refusals.{verdict, success}
-use Rattle.objects.specs.declared.Decoded.{Decoded}
-use Rattle.objects.specs.declared.Decoded.TheVariants as decoded
 use Rattle.objects.specs.Asking.{of_object}
 use Rattle.objects.specs.Decode.{decode_of}
 use Rattle.lists.specs.declared.Words.{Words}
@@ -26,11 +25,11 @@ abbrev pub lost : Walk
 lost = walk 8 success
 
 -- the object at a place; past the count there is none
-unfoldable pub object_at : Words → ℕ → Decoded
-object_at l k = cond (ltb k l.count) (decode_of (get_or l.words k 0)) decoded.NotAllowed
+unfoldable pub object_at : Words → ℕ → Option Object
+object_at l k = cond (ltb k l.count) (decode_of (get_or l.words k 0)) None
 
 -- what stands where a slot's object has to stand
-unfoldable pub found_of : Profile → Slot → Decoded → Found
+unfoldable pub found_of : Profile → Slot → Option Object → Found
 found_of p s d = cond (of_object (fits s) d) (cond (of_object (current_refused p s) d) NotAllowed Allowed) Other
 
 -- one place further: the first fault is kept

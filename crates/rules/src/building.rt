@@ -18,7 +18,6 @@ use crate::tables::{
     AVS_ABOVE, AVS_PAST_15_V_ABOVE, BOTTOM, RAILS, ROW_15_V, ROW_20_V, Rail, SUPPLIES, Supply,
 };
 use lists::{Listing, Words, refuse};
-use objects::Encoded;
 use steps::{Ma10, Mv50, Mv100};
 
 // F stands in bits 29..24 of the first word, and the flag field begins at bit 23.
@@ -30,10 +29,10 @@ fn flags_at(first: bool, flags: u8) -> u8
 }
 
 // The word of what was encoded; every object that is built has one.
-fn word_in(e: Encoded) -> u32
+fn word_in(e: Option<u32>) -> u32
     ensures { result ≡ word_in e }
 {
-    let Encoded::Word(w) = e else {
+    let Some(w) = e else {
         return 0;
     };
     w

@@ -12,7 +12,7 @@ use crate::currents::{between, fixed_allowed, prog_allowed};
 use crate::profiles::judge_profile;
 use crate::tables::{AVS_ABOVE, AVS_PAST_15_V_ABOVE, BOTTOM, RAILS, Rail, SUPPLIES, Supply};
 use lists::Words;
-use objects::{Decoded, Object};
+use objects::Object;
 use steps::{Ma10, Mv100};
 use verdicts::Verdict;
 
@@ -41,7 +41,7 @@ const LOST: Walk = Walk {
 };
 
 // The object at a place; past the count there is none.
-fn object_at(list: Words, at: u8) -> Decoded
+fn object_at(list: Words, at: u8) -> Option<Object>
     requires { list.count ≤ 7 }
     ensures { result ≡ object_at list at }
 {
@@ -49,7 +49,7 @@ fn object_at(list: Words, at: u8) -> Decoded
         let i = at as usize;
         return objects::decode(list.words[i]);
     }
-    Decoded::NotAllowed
+    None
 }
 
 // One place further. The first current that is not allowed is kept.
@@ -79,11 +79,11 @@ fn step(walk: Walk, found: Found) -> Walk
 
 // ---- the fixed part
 
-fn find_rail(p: Profile, volts: u16, d: Decoded) -> Found
+fn find_rail(p: Profile, volts: u16, d: Option<Object>) -> Found
     requires { Within p × (0 < volts) × (volts ≤ 20) }
     ensures { result ≡ found_of p (Fixed volts) d }
 {
-    let Decoded::Known(o) = d else {
+    let Some(o) = d else {
         return Found::Other;
     };
     let Object::Fixed {
@@ -150,10 +150,10 @@ fn ends_right(p: Profile, high: Ma10) -> bool
 }
 
 // Its currents are those of fixed objects, which 17 sees to.
-fn find_avs(p: Profile, d: Decoded) -> Found
+fn find_avs(p: Profile, d: Option<Object>) -> Found
     ensures { result ≡ found_of p (Avs (ltb 90 p.max.0)) d }
 {
-    let Decoded::Known(o) = d else {
+    let Some(o) = d else {
         return Found::Other;
     };
     let Object::Avs { high, .. } = o else {
@@ -179,11 +179,11 @@ fn follow_avs(p: Profile, list: Words, walk: Walk) -> Walk
 
 // ---- programmable supplies
 
-fn find_supply(p: Profile, volts: u16, top: Mv100, d: Decoded) -> Found
+fn find_supply(p: Profile, volts: u16, top: Mv100, d: Option<Object>) -> Found
     requires { Within p }
     ensures { result ≡ found_of p (Prog volts top.0) d }
 {
-    let Decoded::Known(o) = d else {
+    let Some(o) = d else {
         return Found::Other;
     };
     let Object::Pps {

@@ -44,12 +44,3 @@ pub struct Profiled {
     // The profile.
     pub profile: Profile,
 }
-
-// The word at a place of a built list, from 1, or that it has no such place (refusal 20).
-#[derive(Clone, Copy)]
-pub enum Placed {
-    // The word.
-    Word(u32),
-    // The list has no such place.
-    NoPlace,
-}

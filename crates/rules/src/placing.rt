@@ -5,11 +5,11 @@ ghost use Rattle.rules.specs.Tables.{rails, fixed_slots, base_slots, slots, exce
 ghost use Rattle.rules.specs.Placing.{full_at, placed_at};
 ghost use Rattle.rules.specs.Promises.{PlacesWord};
 
+use crate::Profile;
 use crate::building::{avs_word, rail_word, supply_word, wants_too_much};
 use crate::currents::between;
 use crate::profiles::judge_profile;
 use crate::tables::{AVS_ABOVE, RAILS, Rail, SUPPLIES, Supply};
-use crate::{Placed, Profile};
 use steps::HalfWatts;
 
 // The place after a row, where M exceeds it.
@@ -69,7 +69,7 @@ fn stands_there(max: HalfWatts, row: Supply, at: usize, asked: usize) -> bool
     between(row.above, max, row.below)
 }
 
-fn supply_at(p: Profile, from: usize, asked: usize) -> Placed
+fn supply_at(p: Profile, from: usize, asked: usize) -> Option<u32>
     requires { Within p × (from ≡ length (base_slots p.max.0)) × (from ≤ asked) }
     ensures { result ≡ full_at p (length (slots p.max.0)) asked }
 {
@@ -78,48 +78,48 @@ fn supply_at(p: Profile, from: usize, asked: usize) -> Placed
     while i < 3 {
         let row = SUPPLIES[i];
         if stands_there(p.max, row, at, asked) {
-            return Placed::Word(supply_word(p, row.volts, row.top));
+            return Some(supply_word(p, row.volts, row.top));
         }
         at = past_supply(p.max, row, at);
         i += 1;
     }
-    Placed::NoPlace
+    None
 }
 
 // By the place from 0. M exceeds the rows of the fixed part from the first on, so a place there has the row of its own number.
-fn standing_at(p: Profile, asked: usize) -> Placed
+fn standing_at(p: Profile, asked: usize) -> Option<u32>
     requires { Within p }
     ensures { result ≡ placed_at p asked }
 {
     let rails = past_rails(p.max);
     if asked < rails {
         let row = RAILS[asked];
-        return Placed::Word(rail_word(p, asked == 0, row.volts));
+        return Some(rail_word(p, asked == 0, row.volts));
     }
     let base = past_avs(p.max, rails);
     if asked < base {
-        return Placed::Word(avs_word(p));
+        return Some(avs_word(p));
     }
     if p.pps != 1 {
-        return Placed::NoPlace;
+        return None;
     }
     supply_at(p, base, asked)
 }
 
-// The word at a place of the list that `build` gives, counted from 1. `NoPlace` (refusal 20) where that list has no such place; a profile
+// The word at a place of the list that `build` gives, counted from 1. `None` (refusal 20) where that list has no such place; a profile
 // that `build` refuses has none.
-pub fn word_at(p: Profile, place: u8) -> Placed
+pub fn word_at(p: Profile, place: u8) -> Option<u32>
     ensures { PlacesWord p place result }
 {
     let verdict = judge_profile(p);
     if verdict.number != verdicts::SUCCESS {
-        return Placed::NoPlace;
+        return None;
     }
     if wants_too_much(p) {
-        return Placed::NoPlace;
+        return None;
     }
     if place < 1 {
-        return Placed::NoPlace;
+        return None;
     }
     standing_at(p, (place - 1) as usize)
 }

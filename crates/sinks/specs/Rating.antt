@@ -1,14 +1,12 @@
 -- The rating that a sink is designed for (STATEMENT, "The design rating").
 -- Assumes nothing.
-use Rattle.std.specs.Prelude.{Bool, false, cond, ◌&&◌, ◌||◌, List, [], ◌∷◌, ◌++◌, ℕ, ◌*◌, ltb, eqb, get_or}
+use Rattle.std.specs.Prelude.{Bool, false, cond, ◌&&◌, ◌||◌, List, [], ◌∷◌, ◌++◌, ℕ, ◌*◌, ltb, eqb, get_or, Option, Some, None}
 use Rattle.verdicts.specs.declared.Verdict.{Verdict}
 use Rattle.verdicts.specs.Refusals.{Refusal, refusal, each_place, verdict_of}
 use Rattle.steps.specs.Rounding.{down_of}
 use Rattle.lists.specs.declared.Words.{Words}
 use Rattle.sinks.specs.declared.SinkObject.{SinkObject}
 use Rattle.sinks.specs.declared.SinkObject.TheVariants.{Fixed, Battery, Variable, Pps}
-use Rattle.sinks.specs.declared.SinkDecoded.{SinkDecoded}
-use Rattle.sinks.specs.declared.SinkDecoded.TheVariants.{Known, NotAllowed}
 use Rattle.sinks.specs.SinkWords.{sink_decode_of}
 use Rattle.sinks.specs.SinkLists.{sink_shape_refusals}
 
@@ -39,9 +37,9 @@ figure_above rating (Variable x m a) = above_quotient (1000 * rating) x.0 a.0
 figure_above rating (Pps x m a) = pps_above rating x.0 m.0 a.0
 
 -- a word that has no object has no figure
-abbrev pub object_above : ℕ → SinkDecoded → Bool
-object_above rating (Known o) = figure_above rating o
-object_above rating NotAllowed = false
+abbrev pub object_above : ℕ → Option SinkObject → Bool
+object_above rating (Some o) = figure_above rating o
+object_above rating None = false
 
 abbrev pub word_above : ℕ → ℕ → Bool
 word_above rating w = object_above rating (sink_decode_of w)

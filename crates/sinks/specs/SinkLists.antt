@@ -1,11 +1,10 @@
 -- Reading and writing the list of a sink (STATEMENT, "Shape of a sink list": "Reading and writing are as on the source side, with this
 -- shape").
 -- Assumes nothing.
-use Rattle.std.specs.Prelude.{List, ℕ, get_or, replicate}
+use Rattle.std.specs.Prelude.{List, ℕ, get_or, replicate, Option}
 use Rattle.verdicts.specs.declared.Verdict.{Verdict}
 use Rattle.verdicts.specs.Refusals.{Refusal, first_of, verdict, success}
 use Rattle.objects.specs.declared.Side.TheVariants.{Sink}
-use Rattle.objects.specs.declared.Encoded.{Encoded}
 use Rattle.lists.specs.declared.Words.{Words}
 use Rattle.lists.specs.declared.Listing.{Listing}
 use Rattle.lists.specs.Shape.{refusals_for, shape_for}
@@ -13,7 +12,6 @@ use Rattle.lists.specs.Seven.{seven_to}
 use Rattle.lists.specs.Writing.{words_from, writing_refusals, written_from}
 use Rattle.lists.specs.Making.{made_from}
 use Rattle.sinks.specs.declared.SinkObject.{SinkObject}
-use Rattle.sinks.specs.declared.SinkDecoded.{SinkDecoded}
 use Rattle.sinks.specs.declared.SinkPlace.{SinkPlace}
 use Rattle.sinks.specs.declared.SinkObjects.{SinkObjects}
 use Rattle.sinks.specs.declared.SinkReading.{SinkReading}
@@ -36,7 +34,7 @@ abbrev pub no_sinks : SinkObjects
 no_sinks = record { places = replicate 7 empty_sink; count = 0 }
 
 -- the object of a word; a list whose shape passes has one in every word
-abbrev pub sink_in : SinkDecoded → SinkObject
+abbrev pub sink_in : Option SinkObject → SinkObject
 sink_in d = (sink_decoded_says d).1
 
 abbrev pub sink_place : ℕ → SinkPlace
@@ -58,7 +56,7 @@ sink_read_of l = first_of sink_read_refused (sink_shape_refusals l) (record { ve
 
 -- ---- writing: "10, then 7 at the first such object, then what the shape of the words refuses"
 
-abbrev pub sink_encoded_at : List SinkPlace → ℕ → Encoded
+abbrev pub sink_encoded_at : List SinkPlace → ℕ → Option ℕ
 sink_encoded_at ps k = sink_encode_of (get_or ps k empty_sink).object
 
 abbrev pub sink_words_of : SinkObjects → Words

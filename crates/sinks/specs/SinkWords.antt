@@ -1,6 +1,6 @@
 -- What a word says in the list of a sink, and the word of a sink object (STATEMENT, "Sink objects").
 -- Assumes nothing.
-use Rattle.std.specs.Prelude.{cond, List, [], ◌∷◌, ℕ, zero, suc}
+use Rattle.std.specs.Prelude.{cond, List, [], ◌∷◌, ℕ, zero, suc, Option, Some, None}
 use Rattle.objects.specs.Bits.{bits}
 use Rattle.objects.specs.Layout.{Field, field}
 use Rattle.objects.specs.Decode.{kind_bits, not_allowed_for}
@@ -8,11 +8,8 @@ use Rattle.objects.specs.Encode.{three_fields, word_of, fields_say}
 use Rattle.objects.specs.declared.Side.TheVariants.{Sink}
 use Rattle.objects.specs.declared.Object.{Object}
 use Rattle.objects.specs.declared.Object.TheVariants as source
-use Rattle.objects.specs.declared.Encoded.{Encoded}
 use Rattle.sinks.specs.declared.SinkObject.{SinkObject}
 use Rattle.sinks.specs.declared.SinkObject.TheVariants.{Fixed, Battery, Variable, Pps}
-use Rattle.sinks.specs.declared.SinkDecoded.{SinkDecoded}
-use Rattle.sinks.specs.declared.SinkDecoded.TheVariants.{Known, NotAllowed}
 
 -- ---- "A sink object has one of four kinds: fixed, battery, variable and PPS. Its fields", at their bits
 
@@ -40,8 +37,8 @@ sink_by (suc (suc zero)) w = sink_variable_of w
 sink_by (suc (suc (suc k))) w = sink_pps_of w
 
 -- "the kinds 1101b, 1110b and 1111b are not allowed"
-unfoldable pub sink_decode_of : ℕ → SinkDecoded
-sink_decode_of w = cond (not_allowed_for Sink (kind_bits w)) NotAllowed (Known (sink_by (kind_bits w) w))
+unfoldable pub sink_decode_of : ℕ → Option SinkObject
+sink_decode_of w = cond (not_allowed_for Sink (kind_bits w)) None (Some (sink_by (kind_bits w) w))
 
 -- ---- what each answer says: its refusal number, and the object
 
@@ -49,9 +46,9 @@ abbrev pub zero_sink : SinkObject
 zero_sink = Fixed 0 (record { 0 = 0 }) (record { 0 = 0 })
 
 -- 12: "a kind that is not allowed". "On a refusal everything else in the answer is zero".
-abbrev pub sink_decoded_says : SinkDecoded → ℕ × SinkObject
-sink_decoded_says (Known o) = (0, o)
-sink_decoded_says NotAllowed = (12, zero_sink)
+abbrev pub sink_decoded_says : Option SinkObject → ℕ × SinkObject
+sink_decoded_says (Some o) = (0, o)
+sink_decoded_says None = (12, zero_sink)
 
 -- what is to be said of a word
 abbrev pub sink_word_says : ℕ → ℕ × SinkObject
@@ -74,7 +71,7 @@ sink_fields_of (Pps x m a) =
     ∷ field 3 31 30
     ∷ []
 
-abbrev pub sink_encode_of : SinkObject → Encoded
+abbrev pub sink_encode_of : SinkObject → Option ℕ
 sink_encode_of o = word_of (sink_fields_of o)
 
 -- what is to be said of a sink object

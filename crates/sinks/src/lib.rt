@@ -54,16 +54,6 @@ pub enum SinkObject {
         current: Ma50,
     },
 }
-
-// What a word says: a sink object, or a kind that no sink has (refusal 12).
-#[derive(Clone, Copy)]
-pub enum SinkDecoded {
-    // The object.
-    Known(SinkObject),
-    // The bits of AVS, SPR or EPR, or those that no kind has.
-    NotAllowed,
-}
-
 // One place of a list: an object.
 #[derive(Clone, Copy)]
 pub struct SinkPlace {

@@ -5,8 +5,8 @@ ghost use Rattle.verdicts.specs.Refusals.{each_place, verdict_of};
 ghost use Rattle.sinks.specs.Rating.{above_quotient, divided_by, figure_above, word_above, ceiling_rows};
 ghost use Rattle.sinks.specs.Promises.{SinkChecks};
 
+use crate::SinkObject;
 use crate::sink_words::sink_decode;
-use crate::{SinkDecoded, SinkObject};
 use lists::Words;
 use objects::Side;
 use steps::{HalfWatts, Ma10, Ma50, Mv50, Mv100};
@@ -68,7 +68,7 @@ fn word_above(rating: HalfWatts, w: u32) -> bool
     ensures { result ≡ word_above rating.0 w }
 {
     let d = sink_decode(w);
-    let SinkDecoded::Known(object) = d else {
+    let Some(object) = d else {
         return false;
     };
     above_ceiling(rating, object)

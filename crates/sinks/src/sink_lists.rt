@@ -4,9 +4,9 @@ ghost use Rattle.sinks.specs.SinkLists.{sink_place, sink_objects_to, sink_made_o
 ghost use Rattle.sinks.specs.Promises.{SinkShapes, SinkReads, SinkWrites};
 
 use crate::sink_words::{sink_decode, sink_encode};
-use crate::{EMPTY_SINK_PLACE, SinkDecoded, SinkObjects, SinkPlace, SinkReading};
+use crate::{EMPTY_SINK_PLACE, SinkObjects, SinkPlace, SinkReading};
 use lists::{Listing, Words, refuse};
-use objects::{Encoded, Side};
+use objects::Side;
 use verdicts::Verdict;
 
 // Whether these words make a sink list. Refusals: 10; 11 (place 1); then word by word 12, 13, 15, 16, 14 (the word).
@@ -20,7 +20,7 @@ fn place_of(w: u32) -> SinkPlace
     ensures { result ≡ sink_place w }
 {
     let d = sink_decode(w);
-    let SinkDecoded::Known(object) = d else {
+    let Some(object) = d else {
         return EMPTY_SINK_PLACE;
     };
     SinkPlace { object }
@@ -71,7 +71,7 @@ fn encode_places(list: SinkObjects) -> Listing
         let place = list.places[at];
         let object = place.object;
         let e = sink_encode(object);
-        let Encoded::Word(w) = e else {
+        let Some(w) = e else {
             return refuse(verdicts::FIELD_TOO_WIDE, i + 1);
         };
         words[at] = w;

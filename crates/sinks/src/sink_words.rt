@@ -4,17 +4,17 @@ ghost use Rattle.std.specs.Prelude.{◌≡◌};
 ghost use Rattle.sinks.specs.SinkWords.{as_object};
 ghost use Rattle.sinks.specs.Promises.{SinkDecodes, SinkEncodes};
 
-use crate::{SinkDecoded, SinkObject};
-use objects::{Decoded, Encoded, Object, Side};
+use crate::SinkObject;
+use objects::{Object, Side};
 
-// The sink object of a word. `NotAllowed` (refusal 12) where its kind is none that a sink has. It does not look at reserved bits:
+// The sink object of a word. `None` (refusal 12) where its kind is none that a sink has. It does not look at reserved bits:
 // `objects::reserved_bit_set` does.
-pub fn sink_decode(w: u32) -> SinkDecoded
+pub fn sink_decode(w: u32) -> Option<SinkObject>
     ensures { SinkDecodes w result }
 {
     let d = objects::decode_for(Side::Sink, w);
-    let Decoded::Known(object) = d else {
-        return SinkDecoded::NotAllowed;
+    let Some(object) = d else {
+        return None;
     };
     match object {
         Object::Fixed {
@@ -22,28 +22,20 @@ pub fn sink_decode(w: u32) -> SinkDecoded
             volts,
             current,
             ..
-        } => SinkDecoded::Known(SinkObject::Fixed {
+        } => Some(SinkObject::Fixed {
             flags,
             volts,
             current,
         }),
-        Object::Battery { max, min, power } => SinkDecoded::Known(SinkObject::Battery {
-            max,
-            min,
-            power,
-        }),
-        Object::Variable { max, min, current } => SinkDecoded::Known(SinkObject::Variable {
-            max,
-            min,
-            current,
-        }),
+        Object::Battery { max, min, power } => Some(SinkObject::Battery { max, min, power }),
+        Object::Variable { max, min, current } => Some(SinkObject::Variable { max, min, current }),
         Object::Pps {
             max,
             min,
             current,
             ..
-        } => SinkDecoded::Known(SinkObject::Pps { max, min, current }),
-        Object::Avs { .. } => SinkDecoded::NotAllowed,
+        } => Some(SinkObject::Pps { max, min, current }),
+        Object::Avs { .. } => None,
     }
 }
 
@@ -73,8 +65,8 @@ fn as_object(o: SinkObject) -> Object
     }
 }
 
-// The word of a sink object, with every reserved bit zero. `TooWide` (refusal 7) where a field does not fit its bits.
-pub fn sink_encode(o: SinkObject) -> Encoded
+// The word of a sink object, with every reserved bit zero. `None` (refusal 7) where a field does not fit its bits.
+pub fn sink_encode(o: SinkObject) -> Option<u32>
     ensures { SinkEncodes o result }
 {
     objects::encode(as_object(o))

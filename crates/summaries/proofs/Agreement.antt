@@ -1,5 +1,6 @@
 -- The answer from the summary of a list is the answer from the list.
 -- Assumes nothing.
+use Rattle.std.specs.Prelude.{Some}
 use mathlib.Core.Path.{◌≡◌, refl, sym, ap, ◌∙◌, subst}
 use mathlib.Core.Bool.{Bool, true, false}
 use mathlib.Core.List.{List, []}
@@ -14,7 +15,6 @@ use Rattle.steps.specs.Units.{mv20, ma50}
 use Rattle.objects.specs.declared.Side.TheVariants.{Source}
 use Rattle.objects.specs.declared.Object.{Object}
 use Rattle.objects.specs.declared.Object.TheVariants.{Fixed, Battery, Variable, Pps, Avs}
-use Rattle.objects.specs.declared.Decoded.TheVariants.{Known}
 use Rattle.lists.specs.declared.Words.{Words}
 use Rattle.lists.specs.Shape.{bad_count, shape_of}
 use Rattle.lists.specs.Reading.{object_of}
@@ -131,7 +131,7 @@ module _ (l : Words) (shaped : (shape_of l).number ≡ 0) where
   summary_20 a e = misplaced (summary_of l) a to_7 e
 
   module _ (w : ℕ) where
-    pub placed_alike : (o : Object) → bad_position l.count (position_of w) ≡ false → named_by l w ≡ Known o
+    pub placed_alike : (o : Object) → bad_position l.count (position_of w) ≡ false → named_by l w ≡ Some o
         → (a : QuickAsked) → asked_as a ≡ taken_apart o w → answered_by (summary_of l) a ≡ answer_of l w
     placed_alike o e named a is =
         let p : a.position ≡ position_of w = ap (λ (x : Asked). x.position) is ∙ names_own o w in

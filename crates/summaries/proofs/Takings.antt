@@ -1,13 +1,12 @@
 -- Decoding a request: its cases, in order.
 -- Assumes nothing.
+use Rattle.std.specs.Prelude.{Option, Some, None}
 use mathlib.Core.Path.{◌≡◌, refl, ap, ◌∙◌}
 use mathlib.Core.Bool.{true, false}
 use Prim.Native.Nat.{ℕ}
 use lib.Dec.{eqb}
 use Rattle.objects.specs.declared.Object.{Object}
 use Rattle.objects.specs.declared.Object.TheVariants.{Fixed, Battery, Variable, Pps, Avs}
-use Rattle.objects.specs.declared.Decoded.{Decoded}
-use Rattle.objects.specs.declared.Decoded.TheVariants.{Known, NotAllowed}
 use Rattle.objects.specs.Decode.{decoded_number}
 use Rattle.verdicts.specs.Refusals.{first_of, success}
 use Rattle.verdicts.proofs.First.{hit, miss}
@@ -41,13 +40,13 @@ module _ (l : Words) (w : ℕ) where
     misplaced e = miss taken_refused _ 10 0 _ counted ∙ hit taken_refused _ 20 0 _ e
 
     module _ (placed : bad_position l.count (position_of w) ≡ false) where
-      pub of_no_kind : named_by l w ≡ NotAllowed → taken_of l w ≡ taken_refused 12 (position_of w)
+      pub of_no_kind : named_by l w ≡ None → taken_of l w ≡ taken_refused 12 (position_of w)
       unfolding taken_of
       of_no_kind e =
           miss taken_refused _ 10 0 _ counted
           ∙ miss taken_refused _ 20 0 _ placed
-          ∙ hit taken_refused _ 12 (position_of w) _ (ap (λ (d : Decoded). eqb (decoded_number d) 12) e)
+          ∙ hit taken_refused _ 12 (position_of w) _ (ap (λ (d : Option Object). eqb (decoded_number d) 12) e)
 
-      pub of_object_lem : (o : Object) → named_by l w ≡ Known o → taken_of l w ≡ quick_of (taken_apart o w)
+      pub of_object_lem : (o : Object) → named_by l w ≡ Some o → taken_of l w ≡ quick_of (taken_apart o w)
       unfolding taken_of first_of
       of_object_lem o e = rw (counted, placed, e)

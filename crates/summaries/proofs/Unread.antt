@@ -1,5 +1,7 @@
 -- What the calls over summaries do not look at: places past the count, and in decoding and answering all but what the position names.
 -- Assumes nothing.
+use Rattle.std.specs.Prelude.{Option}
+use Rattle.objects.specs.declared.Object.{Object}
 use mathlib.Core.Path.{◌≡◌, refl, sym, ap, ap₂, ◌∙◌, subst}
 use mathlib.Core.Bool.{Bool, true, false}
 use mathlib.Core.List.{List, [], ◌∷◌}
@@ -9,7 +11,6 @@ use lib.ListN.{get_or}
 use borrow.Author.Tests.{ltb-true, ltb-false}
 use Rattle.verdicts.specs.Refusals.{refusal, first_of, success, verdict_of}
 use Rattle.objects.specs.declared.Side.TheVariants.{Source}
-use Rattle.objects.specs.declared.Decoded.{Decoded}
 use Rattle.objects.specs.Decode.{decode_of, decoded_number}
 use Rattle.lists.specs.declared.Words.{Words}
 use Rattle.lists.specs.Shape.{bad_count}
@@ -35,7 +36,7 @@ summary_unread l m a =
     ∙ recounted summarized_of l m a
 
 -- decoding, by the count and what the named word stands for
-abbrev taken_by : ℕ → ℕ → Decoded → TakenRequest
+abbrev taken_by : ℕ → ℕ → Option Object → TakenRequest
 taken_by w n d =
     first_of taken_refused
     (refusal (bad_count n) 10 0

@@ -1,12 +1,10 @@
 -- The summary of a list (STATEMENT, "Summaries"): "the count of the list and seven rows by four limits, a row for each place".
 -- Assumes nothing.
-use Rattle.std.specs.Prelude.{List, [], ◌∷◌, ℕ, get_or, replicate}
+use Rattle.std.specs.Prelude.{List, [], ◌∷◌, ℕ, get_or, replicate, Option, Some, None}
 use Rattle.verdicts.specs.Refusals.{first_of, verdict, success}
 use Rattle.steps.specs.Units.{mv50, mv100, ma10, ma50}
 use Rattle.objects.specs.declared.Object.{Object}
 use Rattle.objects.specs.declared.Object.TheVariants.{Fixed, Battery, Variable, Pps, Avs}
-use Rattle.objects.specs.declared.Decoded.{Decoded}
-use Rattle.objects.specs.declared.Decoded.TheVariants.{Known, NotAllowed}
 use Rattle.objects.specs.Decode.{decode_of}
 use Rattle.lists.specs.declared.Words.{Words}
 use Rattle.lists.specs.Shape.{shape_refusals}
@@ -45,9 +43,9 @@ abbrev pub no_limits : List ℕ
 no_limits = row 0 0 0 0
 
 -- the limits of a word; a list whose shape passes has an object in every word
-abbrev pub limits_in : Decoded → List ℕ
-limits_in (Known o) = limits_of o
-limits_in NotAllowed = no_limits
+abbrev pub limits_in : Option Object → List ℕ
+limits_in (Some o) = limits_of o
+limits_in None = no_limits
 
 abbrev pub limits_at : List ℕ → ℕ → List ℕ
 limits_at ws k = limits_in (decode_of (get_or ws k 0))

@@ -7,7 +7,7 @@ use crate::Summarized;
 use crate::holding::hold;
 use crate::limits::limits;
 use lists::Words;
-use objects::{Decoded, Side};
+use objects::Side;
 
 // The limits of so many words, each in its row; zeros past them.
 fn limit_words(list: Words, count: u8) -> [[u16; 4]; 7]
@@ -21,7 +21,7 @@ fn limit_words(list: Words, count: u8) -> [[u16; 4]; 7]
         let at = i as usize;
         let w = list.words[at];
         let d = objects::decode(w);
-        if let Decoded::Known(object) = d {
+        if let Some(object) = d {
             let row = limits(object);
             rows[at] = row;
         }

@@ -5,7 +5,6 @@ ghost use Rattle.summaries.specs.Promises.{TakesRequest};
 
 use crate::{QuickAsked, QuickRequest, TakenRequest};
 use lists::Words;
-use objects::Decoded;
 use requests::{Asked, Request};
 use verdicts::Verdict;
 
@@ -76,7 +75,7 @@ pub fn take_request(list: Words, word: u32) -> TakenRequest
     let at = (named - 1) as usize;
     let w = list.words[at];
     let d = objects::decode(w);
-    let Decoded::Known(o) = d else {
+    let Some(o) = d else {
         return refused(verdicts::KIND_NOT_ALLOWED, named);
     };
     sorted(requests::take_apart(o, word))

@@ -1,15 +1,16 @@
 -- `flat::raise` meets its contract: each arm of the `match` says which case of `raised_of` holds.
 -- Assumes nothing.
+use Rattle.std.specs.Prelude.{Option}
+use Rattle.objects.specs.declared.Object.{Object}
 use mathlib.Core.Path.{◌≡◌, ap, sym, ◌∙◌}
 use Rattle.flat.specs.declared.FlatObject.{FlatObject}
-use Rattle.flat.specs.declared.Raised.{Raised}
 use Rattle.flat.specs.Flat.{raised_of, raised_says, flat_says}
 use Rattle.flat.proofs.Saying.{flat_says_lem}
 use Rattle.flat.proofs.BothWays.{raised_by_lem}
 use Rattle.flat.proofs.flattening.raise.Goals as goal
 
 -- an answer that is the definition's says what is to be said
-says : (x : FlatObject) (r : Raised) → r ≡ raised_of x → raised_says r ≡ flat_says x
+says : (x : FlatObject) (r : Option Object) → r ≡ raised_of x → raised_says r ≡ flat_says x
 says x r e = ap raised_says e ∙ sym (flat_says_lem x)
 
 pub returns-in-0 : goal.returns-in-0

@@ -13,4 +13,4 @@ pub returns : goal.returns
 returns c =
     let x = c.args in
     c.answer_summary.ensures
-    ∙ sym (by_decoded_request x.summary x.request _ (sym c.raise_request-raised.ensures ∙ c.in-Known.is))
+    ∙ sym (by_decoded_request x.summary x.request _ (sym c.raise_request-raised.ensures ∙ c.in-Some.is))

@@ -33,7 +33,7 @@ loop-i-preserved c =
       at.invariant.1,
       at.invariant.2,
       one_made (encoded_flat_at side l.places) at.i _ at.words (omega arith) at.invariant.3
-          (sym (encoded_one _ (encoded_flat_at side l.places at.i) c.encode_flat-e.ensures) ∙ c.in-Word.is),
+          (sym (encoded_one _ (encoded_flat_at side l.places at.i) c.encode_flat-e.ensures) ∙ c.in-Some.is),
     )
 
 pub returns : goal.returns

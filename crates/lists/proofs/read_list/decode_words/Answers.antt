@@ -1,20 +1,21 @@
 -- `lists::read_list::decode_words` meets its contract: the invariant is that the places passed are filled.
 -- Assumes nothing.
+use Rattle.std.specs.Prelude.{Option}
+use Rattle.objects.specs.declared.Object.{Object}
 use borrow.Author.Rules.{rules}
 use mathlib.Core.Path.{ap, ap₂, sym, ◌∙◌}
 use mathlib.Core.List.{List}
 use Prim.Native.Nat.{◌<◌}
 use native.Mathlib.Omega.{arith}
 use lib.ListN.{set}
-use Rattle.objects.specs.declared.Decoded.{Decoded}
 use Rattle.objects.proofs.Saying.{decoded_is}
 use Rattle.lists.specs.declared.Place.{Place}
 use Rattle.lists.specs.Reading.{empty_place, object_of, place_of}
 use Rattle.lists.proofs.Sevens.{none_filled, one_filled, one_blank}
 use Rattle.lists.proofs.read_list.decode_words.Goals as goal
-use Rattle.lists.proofs.read_list.decode_words.Goals.{in-Known, in_default}
+use Rattle.lists.proofs.read_list.decode_words.Goals.{in-Some, in_default}
 
-abbrev placed : Decoded → Place
+abbrev placed : Option Object → Place
 placed d = record { object = object_of d }
 
 pub loop-i-init : goal.loop-i-init
@@ -28,10 +29,10 @@ loop-i-preserved c =
     let below : at.i < 7 = omega arith in (
       omega arith,
       elim c.match-d.branch [
-        | in-Known w ↦
+        | in-Some w ↦
             w.places-is
             ∙ ap₂ (λ (ps : List Place) (p : Place). set ps at.i p) at.invariant.1
-            (sym (ap placed (sym (decoded_is _ _ c.decode-d.ensures) ∙ w.in-Known.is)))
+            (sym (ap placed (sym (decoded_is _ _ c.decode-d.ensures) ∙ w.in-Some.is)))
             ∙ one_filled f empty_place at.i below
         | in_default w ↦
             w.places-is ∙ at.invariant.1

@@ -1,8 +1,8 @@
 -- `lists::shape_check::judge` meets its contract: each return cites the law of its case.
 -- Assumes nothing.
+use Rattle.std.specs.Prelude.{Some}
 use mathlib.Core.Path.{◌≡◌, sym, ◌∙◌}
 use mathlib.Core.Bool.{false}
-use Rattle.objects.specs.declared.Decoded.TheVariants.{Known}
 use Rattle.objects.specs.Decode.{decode_for}
 use Rattle.objects.specs.Reserved.{reserved_set}
 use Rattle.objects.proofs.Saying.{decoded_for}
@@ -12,16 +12,16 @@ use Rattle.lists.proofs.shape_check.judge.Goals as goal
 use Rattle.lists.proofs.shape_check.judge.Goals.{After-reserved_bit_set, Else-out_of_bounds, Else-over_100_w, Else-reserved_bit_set}
 
 -- what each test passed says of the object bound
-known : (c : After-reserved_bit_set) → decode_for c.args.side c.args.w ≡ Known c.in-Known.object
-known c = sym (decoded_for c.args.side c.args.w _ c.decode_for-d.ensures) ∙ c.in-Known.is
+known : (c : After-reserved_bit_set) → decode_for c.args.side c.args.w ≡ Some c.in-Some.object
+known c = sym (decoded_for c.args.side c.args.w _ c.decode_for-d.ensures) ∙ c.in-Some.is
 
-clear : (c : Else-reserved_bit_set) → reserved_set c.args.side c.in-Known.object c.args.first c.args.w ≡ false
+clear : (c : Else-reserved_bit_set) → reserved_set c.args.side c.in-Some.object c.args.first c.args.w ≡ false
 clear c = sym c.reserved_bit_set.ensures ∙ c.if-reserved_bit_set.false
 
-bounded : (c : Else-out_of_bounds) → out_of_bounds c.in-Known.object ≡ false
+bounded : (c : Else-out_of_bounds) → out_of_bounds c.in-Some.object ≡ false
 bounded c = sym c.out_of_bounds.ensures ∙ c.if-out_of_bounds.false
 
-limited : (c : Else-over_100_w) → over_100_W c.in-Known.object ≡ false
+limited : (c : Else-over_100_w) → over_100_W c.in-Some.object ≡ false
 limited c = sym c.over_100_w.ensures ∙ c.if-over_100_w.false
 
 pub returns-in_default : goal.returns-in_default
@@ -54,7 +54,7 @@ returns-then-first c before r =
     (bounded s.before.before) (limited s) (first_in_order
     s.args.first
     before
-    s.in-Known.object c.if-first.true))
+    s.in-Some.object c.if-first.true))
 
 pub returns-then-may_follow : goal.returns-then-may_follow
 returns-then-may_follow c before r =
@@ -64,7 +64,7 @@ returns-then-may_follow c before r =
     (bounded s.before.before) (limited s) (in_order
     s.args.first
     before
-    s.in-Known.object (sym (c.may_follow.ensures before r) ∙ c.if-may_follow.true)))
+    s.in-Some.object (sym (c.may_follow.ensures before r) ∙ c.if-may_follow.true)))
 
 pub returns : goal.returns
 returns c before r =
@@ -74,5 +74,5 @@ returns c before r =
     (bounded s.before.before) (limited s)
     (out_of_order_lem s.args.first
     before
-    s.in-Known.object c.if-first.false
+    s.in-Some.object c.if-first.false
     (sym (c.may_follow.ensures before r) ∙ c.if-may_follow.false)))

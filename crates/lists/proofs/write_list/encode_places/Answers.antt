@@ -33,7 +33,7 @@ loop-i-preserved c =
       at.invariant.1,
       at.invariant.2,
       one_made (encoded_at l.places) at.i _ at.words (omega arith) at.invariant.3
-          (sym (encoded_is (get_or l.places at.i empty_place).object _ c.encode-e.ensures) ∙ c.in-Word.is),
+          (sym (encoded_is (get_or l.places at.i empty_place).object _ c.encode-e.ensures) ∙ c.in-Some.is),
     )
 
 pub returns : goal.returns

@@ -1,12 +1,12 @@
 -- `objects::encoding::three_word` meets its contract: each test says whether a field fits, and the ors are a sum.
 -- Assumes nothing.
+use Rattle.std.specs.Prelude.{Some}
 use borrow.Author.Tests.{le-ltb, lt-ltb}
 use mathlib.Core.Path.{refl, ◌∙◌, ap}
 use mathlib.Core.List.{[], ◌∷◌}
 use native.Mathlib.Omega.{arith}
 use Rattle.objects.specs.Layout.{field}
 use Rattle.objects.specs.Encode.{word_of}
-use Rattle.objects.specs.declared.Encoded.TheVariants.{Word}
 use Rattle.objects.proofs.Putting.{ored_joined}
 use Rattle.objects.proofs.encoding.three_word.Goals as goal
 
@@ -32,7 +32,7 @@ returns c =
     let hx = c.if-max-ge1024.false in
     let hk = c.requires in
     simp (lt-ltb _ _ hf, lt-ltb _ _ hm, lt-ltb _ _ hx, lt-ltb _ _ hk)
-    (ap Word
+    (ap Some
     (ored_joined x.figure 10 (field x.min 19 10 ∷ field x.max 29 20 ∷ field x.kind 31 30 ∷ []) hf refl
     (hm, (hx, (hk, tt)))
     ∙ omega arith))

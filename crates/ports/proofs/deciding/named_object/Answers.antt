@@ -20,5 +20,5 @@ returns c =
     placed_is _ _ _ c.word_at-placed.ensures
     ∙ ap₂ (λ (p : Profile) (n : ℕ). placed_in (built_of p).list n) c.rule_profile-profile.ensures c.position-place.ensures in
     decoded_is _ _ c.decode.ensures
-    ∙ ap decoded_in (sym c.in-Word.is ∙ named_is)
+    ∙ ap decoded_in (sym c.in-Some.is ∙ named_is)
     ∙ placed_named (rule_list x.row) x.word

@@ -1,12 +1,11 @@
 -- `ports::deciding::request` meets its contract: the port, then the answer of the row's list, then the power that is left.
 -- Assumes nothing.
+use Rattle.std.specs.Prelude.{Option, Some}
 use mathlib.Core.Path.{◌≡◌, sym, ap, ◌∙◌}
 use Prim.Native.Nat.{ℕ}
 use Rattle.verdicts.specs.declared.Verdict.{Verdict}
 use Rattle.verdicts.specs.Refusals.{verdict_of, NoneApply}
 use Rattle.objects.specs.declared.Object.{Object}
-use Rattle.objects.specs.declared.Decoded.{Decoded}
-use Rattle.objects.specs.declared.Decoded.TheVariants.{Known}
 use Rattle.requests.specs.Judging.{judged_of}
 use Rattle.requests.specs.Answering.{answer_of}
 use Rattle.ports.specs.declared.Row.{Row}
@@ -25,7 +24,7 @@ passed : (capacity : ℕ) (s : Standing) (y : Row) (port : ℕ) (v : Verdict) �
 passed capacity s y port v e z = cleared (use_end_refusals capacity s y port) (use_telling capacity s port y) v e z
 
 -- the object that is judged is the one that the request names
-names : (y : Row) (w : ℕ) (o : Object) (d : Decoded) → d ≡ named (rule_list y) w → d ≡ Known o → Names (rule_list y) w o
+names : (y : Row) (w : ℕ) (o : Object) (d : Option Object) → d ≡ named (rule_list y) w → d ≡ Some o → Names (rule_list y) w o
 names y w o d e k = known_named (rule_list y) w o (sym e ∙ k)
 
 own_is : (y : Row) (w : ℕ) (o : Object) (v : Verdict) → Names (rule_list y) w o → v ≡ judged_of o w → v ≡ answer_of (rule_list y) w
@@ -50,7 +49,7 @@ returns-in_default c =
 pub returns-then-own-ne-SUCCESS : goal.returns-then-own-ne-SUCCESS
 returns-then-own-ne-SUCCESS c =
     let x = c.args in
-    let n = names x.row x.word _ _ c.named_object-named.ensures c.in-Known.is in
+    let n = names x.row x.word _ _ c.named_object-named.ensures c.in-Some.is in
     c.no_change-then-own-ne-SUCCESS.ensures
     ∙ own_refused x.capacity.0 x.standing x.row x.port x.word
     (passed x.capacity.0 x.standing x.row x.port _ c.use_fault-fault.ensures c.if-fault-ne-SUCCESS.false) _
@@ -59,7 +58,7 @@ returns-then-own-ne-SUCCESS c =
 pub held_for-held-requires : goal.held_for-held-requires
 held_for-held-requires c =
     let x = c.args in
-    power_fits _ x.word x.row.present.0 c.in-Known.o (names x.row x.word _ _ c.named_object-named.ensures c.in-Known.is).names
+    power_fits _ x.word x.row.present.0 c.in-Some.o (names x.row x.word _ _ c.named_object-named.ensures c.in-Some.is).names
 
 pub hold-requires : goal.hold-requires
 hold-requires c =
@@ -72,7 +71,7 @@ pub returns : goal.returns
 returns c =
     let x = c.args in
     let held = c.held_for-held.result.0 in
-    let n = names x.row x.word _ _ c.named_object-named.ensures c.in-Known.is in
+    let n = names x.row x.word _ _ c.named_object-named.ensures c.in-Some.is in
     let new : held ≡ new_held x.row x.word = c.held_for-held.ensures ∙ sym (held_is x.row x.word _ n) in
     power_decides x.capacity.0 x.standing x.row x.port x.word
     (passed x.capacity.0 x.standing x.row x.port _ c.use_fault-fault.ensures c.if-fault-ne-SUCCESS.false) _

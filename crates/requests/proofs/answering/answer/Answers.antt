@@ -1,12 +1,12 @@
 -- `requests::answer` meets its contract: the shape, the position, then the object that is named.
 -- Assumes nothing.
+use Rattle.std.specs.Prelude.{Option, Some, None}
+use Rattle.objects.specs.declared.Object.{Object}
 use mathlib.Core.Path.{◌≡◌, ap, sym, ◌∙◌, subst}
 use Prim.Native.Nat.{ℕ, ◌-◌, ◌<◌, ◌≤◌}
 use native.Mathlib.Omega.{arith}
 use lib.ListN.{get_or}
 use Rattle.verdicts.specs.declared.Verdict.{Verdict}
-use Rattle.objects.specs.declared.Decoded.{Decoded}
-use Rattle.objects.specs.declared.Decoded.TheVariants.{Known, NotAllowed}
 use Rattle.objects.specs.Decode.{decode_of}
 use Rattle.objects.proofs.Saying.{decoded_is}
 use Rattle.lists.specs.Shape.{shape_of}
@@ -29,7 +29,7 @@ to_count : (c : Else-list-named) → position_of c.args.word ≤ c.args.list.cou
 to_count c = subst (λ (n : ℕ). n ≤ c.args.list.count) c.position-named.ensures c.if-list-named.false
 
 -- the word that is read is the one that is named
-named_is : (c : Else-list-named) (d : Decoded) → d ≡ decode_of (get_or c.args.list.words
+named_is : (c : Else-list-named) (d : Option Object) → d ≡ decode_of (get_or c.args.list.words
     (c.position-named.result - 1) 0)
     → named_by c.args.list c.args.word ≡ d
 named_is c d e =
@@ -69,13 +69,13 @@ returns-in_default c =
     let x = p.args in
     let named = named_is p c.decode-d.result (decoded_is _ _ c.decode-d.ensures) ∙ c.in_default.is in
     let known = names_object x.list x.word (shaped p.before.before.before) (from_1 p.before) (to_count p) in
-    let z : NotAllowed ≡ Known (object_of (named_by x.list x.word)) = sym named ∙ known in
+    let z : None ≡ Some (object_of (named_by x.list x.word)) = sym named ∙ known in
     cc
 
 pub returns : goal.returns
 returns c =
     let p = c.before.before.before.before in
     let x = p.args in
-    let named = named_is p c.decode-d.result (decoded_is _ _ c.decode-d.ensures) ∙ c.in-Known.is in
+    let named = named_is p c.decode-d.result (decoded_is _ _ c.decode-d.ensures) ∙ c.in-Some.is in
     c.judge.ensures
     ∙ sym (judged x.list x.word (shaped p.before.before.before) _ (position_good _ _ (from_1 p.before) (to_count p)) named)

@@ -1,9 +1,9 @@
 -- `rules::checking::find_avs` meets its contract: the kind, and whether there is a second current.
 -- Assumes nothing.
+use Rattle.std.specs.Prelude.{Some}
 use mathlib.Core.Path.{refl, ap, sym, ◌∙◌}
 use mathlib.Core.Bool.{false}
 use lib.Dec.{ltb}
-use Rattle.objects.specs.declared.Decoded.TheVariants.{Known}
 use Rattle.rules.specs.Tables.{Avs}
 use Rattle.rules.specs.Sets.{fits}
 use Rattle.rules.specs.Checking.{current_refused}
@@ -21,19 +21,19 @@ pub returns-in_default-o : goal.returns-in_default-o
 unfolding fits
 returns-in_default-o c =
     let x = c.args in
-    sym (ap (found_of x.p (Avs (ltb 90 x.p.max.0))) c.in-Known.is
-    ∙ found_other x.p (Avs (ltb 90 x.p.max.0)) c.in-Known.o (avs_only _ c.in-Known.o c.in_default-o.not-Avs))
+    sym (ap (found_of x.p (Avs (ltb 90 x.p.max.0))) c.in-Some.is
+    ∙ found_other x.p (Avs (ltb 90 x.p.max.0)) c.in-Some.o (avs_only _ c.in-Some.o c.in_default-o.not-Avs))
 
 pub returns-then-ends_right : goal.returns-then-ends_right
 unfolding fits current_refused
 returns-then-ends_right c =
     let x = c.args in
-    sym (ap (found_of x.p (Avs (ltb 90 x.p.max.0))) (c.in-Known.is ∙ ap Known c.in-Avs.is)
+    sym (ap (found_of x.p (Avs (ltb 90 x.p.max.0))) (c.in-Some.is ∙ ap Some c.in-Avs.is)
     ∙ found_right x.p (Avs (ltb 90 x.p.max.0)) _ false (sym c.ends_right.ensures ∙ c.if-ends_right.true) refl)
 
 pub returns : goal.returns
 unfolding fits
 returns c =
     let x = c.args in
-    sym (ap (found_of x.p (Avs (ltb 90 x.p.max.0))) (c.in-Known.is ∙ ap Known c.in-Avs.is)
+    sym (ap (found_of x.p (Avs (ltb 90 x.p.max.0))) (c.in-Some.is ∙ ap Some c.in-Avs.is)
     ∙ found_other x.p (Avs (ltb 90 x.p.max.0)) _ (sym c.ends_right.ensures ∙ c.if-ends_right.false))

@@ -1,11 +1,11 @@
 -- `rules::word_at` meets its contract: the refusals of the builder, then the place.
 -- Assumes nothing.
+use Rattle.std.specs.Prelude.{Option}
 use mathlib.Core.Path.{◌≡◌, sym, ap, ◌∙◌}
 use Prim.Native.Nat.{ℕ}
 use Rattle.verdicts.specs.declared.Verdict.{Verdict}
 use Rattle.lists.specs.declared.Listing.{Listing}
 use Rattle.rules.specs.declared.Profile.{Profile}
-use Rattle.rules.specs.declared.Placed.{Placed}
 use Rattle.rules.specs.Building.{built_of}
 use Rattle.rules.specs.Placing.{placed_in, placed_says, place_says}
 use Rattle.rules.proofs.ProfileCases.{judged_fine, max_high, within_bounds_lem}
@@ -18,11 +18,11 @@ abbrev number : Verdict → ℕ
 number v = v.number
 
 -- a place of what is built
-abbrev placed : ℕ → Listing → Placed
+abbrev placed : ℕ → Listing → Option ℕ
 placed place l = placed_in l.list place
 
 -- an answer that is the definition's says what is to be said
-says : (p : Profile) (place : ℕ) (r : Placed) → r ≡ placed_in (built_of p).list place → placed_says r ≡ place_says (built_of p).list place
+says : (p : Profile) (place : ℕ) (r : Option ℕ) → r ≡ placed_in (built_of p).list place → placed_says r ≡ place_says (built_of p).list place
 says p place r e = ap placed_says e ∙ sym (place_says_lem (built_of p).list place)
 
 pub returns-then-verdict-ne-SUCCESS : goal.returns-then-verdict-ne-SUCCESS

@@ -11,4 +11,4 @@ returns-in_default c = sym (ap (object_above _) (sym (sink_decoded_is _ _ c.sink
 pub returns : goal.returns
 returns c =
     c.above_ceiling.ensures
-    ∙ sym (ap (object_above _) (sym (sink_decoded_is _ _ c.sink_decode-d.ensures) ∙ c.in-Known.is))
+    ∙ sym (ap (object_above _) (sym (sink_decoded_is _ _ c.sink_decode-d.ensures) ∙ c.in-Some.is))

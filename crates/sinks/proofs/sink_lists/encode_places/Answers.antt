@@ -32,7 +32,7 @@ loop-i-preserved c =
       at.invariant.1,
       at.invariant.2,
       one_made (sink_encoded_at l.places) at.i _ at.words (omega arith) at.invariant.3
-          (sym (sink_encoded_is (get_or l.places at.i empty_sink).object _ c.sink_encode-e.ensures) ∙ c.in-Word.is),
+          (sym (sink_encoded_is (get_or l.places at.i empty_sink).object _ c.sink_encode-e.ensures) ∙ c.in-Some.is),
     )
 
 pub returns : goal.returns

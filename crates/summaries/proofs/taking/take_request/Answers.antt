@@ -1,5 +1,7 @@
 -- `summaries::take_request` meets its contract: the count, the position, the kind of the word that it names.
 -- Assumes nothing.
+use Rattle.std.specs.Prelude.{Option}
+use Rattle.objects.specs.declared.Object.{Object}
 use Rattle.summaries.proofs.Takings.{miscounted, misplaced, of_no_kind, of_object_lem}
 use Rattle.summaries.specs.Taking.{quick_of, taken_refused}
 use Rattle.requests.proofs.Answers.{position_zero, position_past, position_good}
@@ -8,7 +10,6 @@ use Rattle.requests.specs.Taking.{position_of}
 use Rattle.lists.specs.Shape.{bad_count}
 use Rattle.objects.proofs.Saying.{decoded_is}
 use Rattle.objects.specs.Decode.{decode_of}
-use Rattle.objects.specs.declared.Decoded.{Decoded}
 use lib.ListN.{get_or}
 use Prim.Native.Nat.{ℕ, ◌-◌, ◌<◌, ◌≤◌}
 use mathlib.Core.Bool.{false}
@@ -28,7 +29,7 @@ to_count c = subst (λ (n : ℕ). n ≤ c.args.list.count) c.position-named.ensu
 placed : (c : Else-count-named) → bad_position c.args.list.count (position_of c.args.word) ≡ false
 placed c = position_good _ _ (from_1 c.before) (to_count c)
 
-named_is : (c : Else-count-named) (d : Decoded) → d ≡ decode_of (get_or c.args.list.words (c.position-named.result - 1) 0)
+named_is : (c : Else-count-named) (d : Option Object) → d ≡ decode_of (get_or c.args.list.words (c.position-named.result - 1) 0)
     → named_by c.args.list c.args.word ≡ d
 named_is c d e =
     ap (λ (n : ℕ). decode_of (get_or c.args.list.words (n - 1) 0)) (sym c.position-named.ensures) ∙ sym e
@@ -66,7 +67,7 @@ returns c =
     let p = c.before.before.before.before.before in
     let x = p.args in
     let d = c.before.before.before in
-    let named = named_is p d.decode-d.result (decoded_is _ _ d.decode-d.ensures) ∙ c.in-Known.is in
+    let named = named_is p d.decode-d.result (decoded_is _ _ d.decode-d.ensures) ∙ c.in-Some.is in
     c.sorted.ensures
     ∙ ap quick_of c.take_apart.ensures
     ∙ sym (of_object_lem x.list x.word (counted p.before.before.before) (placed p) _ named)
