@@ -1,2 +1,3 @@
 pub mod Bools
 pub mod First
+pub mod Results

@@ -1,6 +1,6 @@
 -- Refusals in order (STATEMENT, "Order"): a call has a table of refusals, one a row, and the first row that applies is the answer.
 -- Assumes nothing.
-use Rattle.std.specs.Prelude.{◌≡◌, Bool, true, false, List, [], ◌∷◌, ◌++◌, ℕ, zero, suc}
+use Rattle.std.specs.Prelude.{◌≡◌, cond, Bool, true, false, List, [], ◌∷◌, ◌++◌, ℕ, zero, suc, eqb, Result, Ok, Err}
 use Rattle.verdicts.specs.declared.Verdict.{Verdict}
 
 -- one row: whether the refusal applies, its number, its place
@@ -27,6 +27,25 @@ success = verdict 0 0
 
 abbrev pub verdict_of : List Refusal → Verdict
 verdict_of rs = first_of verdict rs success
+
+-- ---- the same as results, for `?`
+
+-- a refusal as an error
+abbrev pub err : {A : Type 0} → ℕ → ℕ → Result A Verdict
+err n p = Err (verdict n p)
+
+-- nothing where no row applies, else the first that does
+abbrev pub passed_by : List Refusal → Result (Unit {0}) Verdict
+passed_by rs = first_of err rs (Ok tt)
+
+-- of a verdict that was given: nothing where it is a success, else the verdict
+abbrev pub passed_of : Verdict → Result (Unit {0}) Verdict
+passed_of v = cond (eqb v.number 0) (Ok tt) (Err v)
+
+-- and back: the verdict that a result tells
+abbrev pub told : Result (Unit {0}) Verdict → Verdict
+told (Ok u) = success
+told (Err v) = v
 
 -- ---- what is claimed of a table and an answer; no contract cites these
 

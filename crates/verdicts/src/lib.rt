@@ -3,6 +3,9 @@
 
 #![tactic(auto)]
 
+ghost use Rattle.std.specs.Prelude.{◌≡◌};
+ghost use Rattle.verdicts.specs.Refusals.{verdict, passed_of, told};
+
 // The answer of a call: the first refusal that applies, or success, which is number 0, place 0.
 #[repr(C)]
 #[derive(Clone, Copy)]
@@ -12,6 +15,51 @@ pub struct Verdict {
     // The word, the object or the row that is at fault, counted from 1. 0 where no place is named.
     pub place: u8,
 }
+
+impl Verdict {
+    // A refusal that names no place.
+    pub fn placeless(number: u8) -> Verdict
+        ensures { result ≡ verdict number 0 }
+    {
+        Verdict { number, place: 0 }
+    }
+
+    // A refusal at this word, object or row, counted from 1.
+    pub fn at(number: u8, place: u8) -> Verdict
+        ensures { result ≡ verdict number place }
+    {
+        Verdict { number, place }
+    }
+
+    // For `?`: nothing where the call succeeded, else this verdict.
+    pub fn passed(self) -> Result<(), Verdict>
+        ensures { result ≡ passed_of self }
+    {
+        if self.number == SUCCESS {
+            Ok(())
+        } else {
+            Err(self)
+        }
+    }
+}
+
+// What a call answers that went on by `?`.
+impl From<Result<(), Verdict>> for Verdict {
+    ghost from_gives = { λ r v. v ≡ told r };
+
+    fn from(answer: Result<(), Verdict>) -> Verdict {
+        match answer {
+            Ok(()) => PASSED,
+            Err(verdict) => verdict,
+        }
+    }
+}
+
+// The answer of a call that refuses nothing.
+pub const PASSED: Verdict = Verdict {
+    number: SUCCESS,
+    place: 0,
+};
 
 // Nothing is refused.
 pub const SUCCESS: u8 = 0;

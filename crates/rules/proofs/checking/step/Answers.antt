@@ -8,7 +8,7 @@ use Rattle.rules.proofs.checking.step.Goals as goal
 pub returns-then-verdict-ne-SUCCESS : goal.returns-then-verdict-ne-SUCCESS
 returns-then-verdict-ne-SUCCESS c =
     let x = c.args in
-    step_kept x.walk c.if-verdict-ne-SUCCESS.true ∙ ap (step_by x.walk) (sym c.in-None.is)
+    step_kept x.walk c.if-verdict-ne-SUCCESS.true ∙ ap (step_by x.walk) (sym c.in-NotAllowed.is)
 
 pub returns-in-Other : goal.returns-in-Other
 returns-in-Other c =
@@ -23,4 +23,4 @@ returns-in-Allowed c =
 pub returns-else-verdict-ne-SUCCESS : goal.returns-else-verdict-ne-SUCCESS
 returns-else-verdict-ne-SUCCESS c =
     let x = c.args in
-    step_first x.walk c.if-verdict-ne-SUCCESS.false ∙ ap (step_by x.walk) (sym c.in-None.is)
+    step_first x.walk c.if-verdict-ne-SUCCESS.false ∙ ap (step_by x.walk) (sym c.in-NotAllowed.is)
