@@ -1,7 +1,8 @@
 -- Writing a list (STATEMENT, "Lists in hand": "It looks at the count first (10), then for the first object with a field that is wider
 -- than its bits (7, the object's place), and then at the shape of the words that the objects make.").
 -- Assumes nothing.
-use Rattle.std.specs.Prelude.{cond, List, [], ◌∷◌, ◌++◌, ℕ, ◌+◌, get_or, replicate, eqb, Option}
+use Rattle.std.specs.Prelude.{Result, Ok, Err, cond, List, [], ◌∷◌, ◌++◌, ℕ, ◌+◌, get_or, replicate, eqb, Option}
+use Rattle.verdicts.specs.declared.Verdict.{Verdict}
 use Rattle.verdicts.specs.Refusals.{Refusal, refusal, each_place, first_of, verdict, success}
 use Rattle.objects.specs.declared.Side.{Side}
 use Rattle.objects.specs.declared.Side.TheVariants.{Source}
@@ -36,6 +37,11 @@ writing_refusals side made n = refusal (bad_count n) 10 0 ∷ (each_place (wide_
 
 abbrev pub write_refused : ℕ → ℕ → Listing
 write_refused n p = record { verdict = verdict n p; list = no_words }
+
+-- the listing of a result: on a refusal it is empty
+abbrev pub listing_told : Result Words Verdict → Listing
+listing_told (Ok l) = record { verdict = success; list = l }
+listing_told (Err v) = record { verdict = v; list = no_words }
 
 unfoldable pub written_from : Side → (ℕ → Option ℕ) → ℕ → Listing
 written_from side made n = first_of write_refused (writing_refusals side made n) (record { verdict = success; list = words_from made n })

@@ -3,6 +3,9 @@
 
 #![tactic(auto)]
 
+ghost use Rattle.std.specs.Prelude.{◌≡◌};
+ghost use Rattle.lists.specs.Writing.{listing_told};
+
 mod object_rules;
 mod read_list;
 mod shape_check;
@@ -12,7 +15,7 @@ use objects::Object;
 pub use read_list::read;
 pub use shape_check::{bad_count, readable, shape, shape_for};
 use steps::{Ma10, Mv50};
-use verdicts::Verdict;
+use verdicts::{PASSED, Verdict};
 pub use write_list::{finished, refuse, write};
 
 // Seven words and how many of them count. What lies past the count is not read.
@@ -67,6 +70,24 @@ pub struct Listing {
     pub verdict: Verdict,
     // The words.
     pub list: Words,
+}
+
+// What a call that gives a list answers, from one that went on by `?`: on a refusal the list is empty.
+impl From<Result<Words, Verdict>> for Listing {
+    ghost from_gives = { λ r l. l ≡ listing_told r };
+
+    fn from(made: Result<Words, Verdict>) -> Listing {
+        match made {
+            Ok(list) => Listing {
+                verdict: PASSED,
+                list,
+            },
+            Err(verdict) => Listing {
+                verdict,
+                list: NO_WORDS,
+            },
+        }
+    }
 }
 
 // An empty list, as it is on every refusal.
