@@ -49,29 +49,35 @@ same_less a b = lt_told (ltb a b) (eqb a b)
 same_less_or_equal : (a b : ℕ) → is_le (cond (ltb a b) Less (cond (eqb a b) Equal Greater)) ≡ leb a b
 same_less_or_equal a b = le_told (ltb a b) (eqb a b) ∙ le_parts a b
 
--- a fixed object and AVS stand above what they follow
-abbrev pub Rises : Standing → Type 0
-Rises t = ((x : Mv50) × (t ≡ standing.Fixed x)) ⊎ (t ≡ standing.Avs)
-
--- the others do not fall
+-- those that do not fall
 abbrev pub Stays : Standing → Type 0
 Stays t = ((x : Mv50) × (t ≡ standing.Battery x)) ⊎ (((x : Mv50) × (t ≡ standing.Variable x)) ⊎ ((x : Mv100) × (t ≡ standing.Pps x)))
 
-pub rising : (before o : Object) → Rises (standing_of o) → less (standing_of before) (standing_of o) ≡ may_follow before o
+-- a fixed object stands above what it follows
+pub above_fixed : (before o : Object) (v : Mv50) → standing_of o ≡ standing.Fixed v → less (standing_of before) (standing_of o) ≡ may_follow before o
 unfolding may_follow
-rising (Fixed f p v a) (Fixed g q w b) r = same_less v.0 w.0
-rising (Battery x m p) (Fixed g q w b) r = refl
-rising (Variable x m a) (Fixed g q w b) r = refl
-rising (Avs p l h) (Fixed g q w b) r = refl
-rising (Pps l x m a) (Fixed g q w b) r = refl
-rising (Fixed f p v a) (Avs q l h) r = refl
-rising (Battery x m p) (Avs q l h) r = refl
-rising (Variable x m a) (Avs q l h) r = refl
-rising (Avs p k j) (Avs q l h) r = refl
-rising (Pps l x m a) (Avs q k h) r = refl
-rising before (Battery x m p) r = ⊎_elim (λ e. let z = e.1 in cc) (λ e. cc) r
-rising before (Variable x m a) r = ⊎_elim (λ e. let z = e.1 in cc) (λ e. cc) r
-rising before (Pps l x m a) r = ⊎_elim (λ e. let z = e.1 in cc) (λ e. cc) r
+above_fixed (Fixed f p v a) (Fixed g q w b) x e = same_less v.0 w.0
+above_fixed (Battery y m p) (Fixed g q w b) x e = refl
+above_fixed (Variable y m a) (Fixed g q w b) x e = refl
+above_fixed (Avs p l h) (Fixed g q w b) x e = refl
+above_fixed (Pps l y m a) (Fixed g q w b) x e = refl
+above_fixed before (Battery y m p) x e = cc
+above_fixed before (Variable y m a) x e = cc
+above_fixed before (Avs p l h) x e = cc
+above_fixed before (Pps l y m a) x e = cc
+
+-- and so does AVS
+pub above_avs : (before o : Object) → standing_of o ≡ standing.Avs → less (standing_of before) (standing_of o) ≡ may_follow before o
+unfolding may_follow
+above_avs (Fixed f p v a) (Avs q l h) e = refl
+above_avs (Battery x m p) (Avs q l h) e = refl
+above_avs (Variable x m a) (Avs q l h) e = refl
+above_avs (Avs p k j) (Avs q l h) e = refl
+above_avs (Pps l x m a) (Avs q k h) e = refl
+above_avs before (Fixed f p v a) e = cc
+above_avs before (Battery x m p) e = cc
+above_avs before (Variable x m a) e = cc
+above_avs before (Pps l x m a) e = cc
 
 pub staying : (before o : Object) → Stays (standing_of o) → less_or_equal (standing_of before) (standing_of o) ≡ may_follow before o
 unfolding may_follow

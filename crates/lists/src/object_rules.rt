@@ -63,13 +63,16 @@ pub fn standing_of(o: Object) -> Standing
     }
 }
 
-// Whether an object that stands so may stand right after one that stands as `before` (14). A fixed voltage rises, and there is no second AVS;
-// the others do not fall.
+// Whether an object that stands so may stand right after one that stands as `before` (14).
 pub fn may_follow(before: Standing, after: Standing) -> bool
     ensures { Follows before after result }
 {
     match after {
-        Standing::Fixed(_) | Standing::Avs => before < after,
+        // A fixed voltage rises.
+        Standing::Fixed(_) => before < after,
+        // There is no second AVS.
+        Standing::Avs => before < after,
+        // The others do not fall.
         Standing::Battery(_) | Standing::Variable(_) | Standing::Pps(_) => before <= after,
     }
 }

@@ -36,7 +36,8 @@ fn judge(side: Side, place: u8, before: Option<Standing>, w: u32) -> Result<Stan
     let Some(object) = objects::decode_for(side, w) else {
         return Err(Verdict::at(verdicts::KIND_NOT_ALLOWED, place));
     };
-    if objects::reserved_bit_set(side, object, before.is_none(), w) {
+    let first = before.is_none();
+    if objects::reserved_bit_set(side, object, first, w) {
         return Err(Verdict::at(verdicts::RESERVED_BIT, place));
     }
     if out_of_bounds(object) {
@@ -46,10 +47,12 @@ fn judge(side: Side, place: u8, before: Option<Standing>, w: u32) -> Result<Stan
         return Err(Verdict::at(verdicts::POWER_OVER_100_W, place));
     }
     let standing = standing_of(object);
-    match before {
-        Some(earlier) if !may_follow(earlier, standing) => Err(Verdict::at(verdicts::ORDER, place)),
-        _ => Ok(standing),
+    if let Some(earlier) = before {
+        if !may_follow(earlier, standing) {
+            return Err(Verdict::at(verdicts::ORDER, place));
+        }
     }
+    Ok(standing)
 }
 
 // Word by word, until one is refused: the index of the AVS word, where there is one.
@@ -96,13 +99,9 @@ fn avs_differs(words: &[u32], w: u32) -> bool
     }
     let low = Ma10(((w >> 10) & 0x3FF) as u16);
     let high = Ma10((w & 0x3FF) as u16);
-    if has_fixed(words, Mv50(300), low) {
-        if high.0 == 0 {
-            return false;
-        }
-        return !has_fixed(words, Mv50(400), high);
-    }
-    true
+    let agrees = has_fixed(words, Mv50(300), low)
+        && (high.0 == 0 || has_fixed(words, Mv50(400), high));
+    !agrees
 }
 
 // The AVS word, where there is one: there is no other, since no AVS object may follow one of its rank or a higher one.
@@ -110,13 +109,13 @@ fn judge_avs(words: &[u32], avs: Option<usize>) -> Result<(), Verdict>
     requires { OnlyAvs Side.Source words.now (length words.now) (place_at avs) }
     ensures { result ≡ passed_by (agreement_rows Side.Source (all_counting words.now)) }
 {
-    match avs {
-        Some(i) if avs_differs(words, words[i]) => Err(Verdict::at(
-            verdicts::AVS_DIFFERS,
-            i as u8 + 1,
-        )),
-        _ => Ok(()),
+    let Some(i) = avs else {
+        return Ok(());
+    };
+    if avs_differs(words, words[i]) {
+        return Err(Verdict::at(verdicts::AVS_DIFFERS, i as u8 + 1));
     }
+    Ok(())
 }
 
 // 17: no sink has an AVS object that could differ.

@@ -13,7 +13,7 @@ pub fn refuse(number: u8, place: u8) -> Listing
     ensures { Refuses number place result }
 {
     Listing {
-        verdict: Verdict { number, place },
+        verdict: Verdict::at(number, place),
         list: NO_WORDS,
     }
 }
@@ -28,10 +28,8 @@ fn encode_places(list: Objects) -> Result<Words, Verdict>
     }
     let mut words = [0u32; 7];
     for (i, place) in list.places[..count as usize].iter().enumerate() {
-        words[i] = objects::encode(place.object).ok_or(Verdict::at(
-            verdicts::FIELD_TOO_WIDE,
-            i as u8 + 1,
-        ))?;
+        let too_wide = Verdict::at(verdicts::FIELD_TOO_WIDE, i as u8 + 1);
+        words[i] = objects::encode(place.object).ok_or(too_wide)?;
     }
     Ok(Words { words, count })
 }

@@ -4,6 +4,7 @@ use mathlib.Core.Path.{◌≡◌, ap, ap₂, sym, ◌∙◌}
 use mathlib.Core.Bool.{true, not}
 use mathlib.Core.List.{List}
 use Prim.Native.Nat.{ℕ, ◌/◌, ◌^◌}
+use borrow.Author.Tests.{eq-eqb}
 use lib.Bits.{bit_and}
 use lib.ListN.{length}
 use Rattle.objects.specs.Asking.{of_object}
@@ -13,6 +14,7 @@ use Rattle.lists.specs.Shape.{avs_matches, avs_differs}
 use Rattle.lists.proofs.Telling.{no_avs, an_avs}
 use Rattle.lists.proofs.Matching.{no_15_V, ends_at_15_V, by_20_V}
 use Rattle.lists.proofs.shape_check.avs_differs.Goals as goal
+use Rattle.lists.proofs.shape_check.avs_differs.Goals.{then-has_fixed+then-high-eq0, then-has_fixed+else-high-eq0, else-has_fixed}
 
 -- an AVS word, by the currents taken out of it
 as_taken : (ws : List ℕ) (n w : ℕ) → is_kind w 14 ≡ true
@@ -28,21 +30,20 @@ returns-then-not-is_kind c =
     let x = c.args in
     sym (no_avs (λ low high. not (avs_matches x.words.now (length x.words.now) low high)) x.w (sym c.is_kind.ensures ∙ c.if-not-is_kind.true))
 
-pub returns-then-high-eq0 : goal.returns-then-high-eq0
-returns-then-high-eq0 c =
-    let x = c.args in
-    sym (as_taken x.words.now (length x.words.now) x.w (sym c.is_kind.ensures ∙ c.if-not-is_kind.false)
-    ∙ ends_at_15_V _ _ _ _ (sym c.has_fixed.ensures ∙ c.if-has_fixed.true) c.if-high-eq0.true)
-
-pub returns-then-has_fixed : goal.returns-then-has_fixed
-returns-then-has_fixed c =
-    let x = c.args in
-    ap not c.has_fixed-then-has_fixed.ensures
-    ∙ sym (as_taken x.words.now (length x.words.now) x.w (sym c.is_kind.ensures ∙ c.if-not-is_kind.false)
-    ∙ by_20_V _ _ _ _ (sym c.has_fixed.ensures ∙ c.if-has_fixed.true) c.if-high-eq0.false)
-
 pub returns : goal.returns
 returns c =
     let x = c.args in
-    sym (as_taken x.words.now (length x.words.now) x.w (sym c.is_kind.ensures ∙ c.if-not-is_kind.false)
-    ∙ no_15_V _ _ _ (record { 0 = bit_and x.w 1023 }) (sym c.has_fixed.ensures ∙ c.if-has_fixed.false))
+    let ws = x.words.now in
+    let n = length ws in
+    let agrees : c.if-has_fixed.agrees ≡ avs_matches ws n (record { 0 = bit_and (x.w / 2 ^ 10) 1023 }) (record { 0 = bit_and x.w 1023 }) = elim c.if-has_fixed.branch [
+      | then-has_fixed+then-high-eq0 w ↦
+          w.agrees-is ∙ eq-eqb (bit_and x.w 1023) 0 w.if-high-eq0.true ∙ sym (ends_at_15_V ws n _ (record { 0 = bit_and x.w 1023 }) (sym c.has_fixed.ensures ∙ w.if-has_fixed.true) w.if-high-eq0.true)
+      | then-has_fixed+else-high-eq0 w ↦
+          w.agrees-is
+          ∙ w.has_fixed-else-high-eq0.ensures
+          ∙ sym (by_20_V ws n _ (record { 0 = bit_and x.w 1023 }) (sym c.has_fixed.ensures ∙ w.if-has_fixed.true) w.if-high-eq0.false)
+      | else-has_fixed w ↦
+          w.agrees-is ∙ w.if-has_fixed.false
+          ∙ sym (no_15_V ws n _ (record { 0 = bit_and x.w 1023 }) (sym c.has_fixed.ensures ∙ w.if-has_fixed.false))
+    ] in
+    ap not agrees ∙ sym (as_taken ws n x.w (sym c.is_kind.ensures ∙ c.if-not-is_kind.false))

@@ -18,7 +18,7 @@ returns-then-reserved_bit_set c before e =
     let o = c.in-Some.object in
     ap Err c.at-then-reserved_bit_set.ensures
     ∙ reserved a.side a.place before a.w o (sym (decoded_for a.side a.w _ c.decode_for.ensures) ∙ c.in-Some.is)
-    (reserved_at a.side o a.w before _ _ e c.is_none.ensures c.reserved_bit_set.ensures ∙ c.if-reserved_bit_set.true)
+    (reserved_at a.side o a.w before _ _ e c.is_none-first.ensures c.reserved_bit_set.ensures ∙ c.if-reserved_bit_set.true)
 
 pub returns-then-out_of_bounds : goal.returns-then-out_of_bounds
 returns-then-out_of_bounds c before e =
@@ -26,7 +26,7 @@ returns-then-out_of_bounds c before e =
     let o = c.in-Some.object in
     ap Err c.at-then-out_of_bounds.ensures
     ∙ bound a.side a.place before a.w o (sym (decoded_for a.side a.w _ c.decode_for.ensures) ∙ c.in-Some.is)
-    (reserved_at a.side o a.w before _ _ e c.is_none.ensures c.reserved_bit_set.ensures ∙ c.if-reserved_bit_set.false)
+    (reserved_at a.side o a.w before _ _ e c.is_none-first.ensures c.reserved_bit_set.ensures ∙ c.if-reserved_bit_set.false)
     (sym c.out_of_bounds.ensures ∙ c.if-out_of_bounds.true)
 
 pub returns-then-over_100_w : goal.returns-then-over_100_w
@@ -35,20 +35,31 @@ returns-then-over_100_w c before e =
     let o = c.in-Some.object in
     ap Err c.at-then-over_100_w.ensures
     ∙ power a.side a.place before a.w o (sym (decoded_for a.side a.w _ c.decode_for.ensures) ∙ c.in-Some.is)
-    (reserved_at a.side o a.w before _ _ e c.is_none.ensures c.reserved_bit_set.ensures ∙ c.if-reserved_bit_set.false)
+    (reserved_at a.side o a.w before _ _ e c.is_none-first.ensures c.reserved_bit_set.ensures ∙ c.if-reserved_bit_set.false)
     (sym c.out_of_bounds.ensures ∙ c.if-out_of_bounds.false)
     (sym c.over_100_w.ensures ∙ c.if-over_100_w.true)
 
-pub returns-in-Some-before : goal.returns-in-Some-before
-returns-in-Some-before c before e =
+pub returns-then-not-may_follow : goal.returns-then-not-may_follow
+returns-then-not-may_follow c before e =
     let a = c.args in
     let o = c.in-Some.object in
-    ap Err c.at-in-Some-before.ensures
+    ap Err c.at-then-not-may_follow.ensures
     ∙ order a.side a.place before a.w o (sym (decoded_for a.side a.w _ c.decode_for.ensures) ∙ c.in-Some.is)
-    (reserved_at a.side o a.w before _ _ e c.is_none.ensures c.reserved_bit_set.ensures ∙ c.if-reserved_bit_set.false)
+    (reserved_at a.side o a.w before _ _ e c.is_none-first.ensures c.reserved_bit_set.ensures ∙ c.if-reserved_bit_set.false)
     (sym c.out_of_bounds.ensures ∙ c.if-out_of_bounds.false)
     (sym c.over_100_w.ensures ∙ c.if-over_100_w.false)
     (order_by before o (e ∙ c.in-Some-before.is) (sym c.standing_of-standing.ensures) c.may_follow.ensures ∙ ap not c.if-not-may_follow.true)
+
+pub returns-else-not-may_follow : goal.returns-else-not-may_follow
+returns-else-not-may_follow c before e =
+    let a = c.args in
+    let o = c.in-Some.object in
+    ap Ok c.standing_of-standing.ensures
+    ∙ fine a.side a.place before a.w o (sym (decoded_for a.side a.w _ c.decode_for.ensures) ∙ c.in-Some.is)
+    (reserved_at a.side o a.w before _ _ e c.is_none-first.ensures c.reserved_bit_set.ensures ∙ c.if-reserved_bit_set.false)
+    (sym c.out_of_bounds.ensures ∙ c.if-out_of_bounds.false)
+    (sym c.over_100_w.ensures ∙ c.if-over_100_w.false)
+    (order_by before o (e ∙ c.in-Some-before.is) (sym c.standing_of-standing.ensures) c.may_follow.ensures ∙ ap not c.if-not-may_follow.false)
 
 pub returns-in_default-before : goal.returns-in_default-before
 returns-in_default-before c before e =
@@ -56,18 +67,7 @@ returns-in_default-before c before e =
     let o = c.in-Some.object in
     ap Ok c.standing_of-standing.ensures
     ∙ fine a.side a.place before a.w o (sym (decoded_for a.side a.w _ c.decode_for.ensures) ∙ c.in-Some.is)
-    (reserved_at a.side o a.w before _ _ e c.is_none.ensures c.reserved_bit_set.ensures ∙ c.if-reserved_bit_set.false)
-    (sym c.out_of_bounds.ensures ∙ c.if-out_of_bounds.false)
-    (sym c.over_100_w.ensures ∙ c.if-over_100_w.false)
-    (order_by before o (e ∙ c.in-Some-before.is) (sym c.standing_of-standing.ensures) c.may_follow.ensures ∙ ap not c.if-not-may_follow.false)
-
-pub returns-in_default-before-2 : goal.returns-in_default-before-2
-returns-in_default-before-2 c before e =
-    let a = c.args in
-    let o = c.in-Some.object in
-    ap Ok c.standing_of-standing.ensures
-    ∙ fine a.side a.place before a.w o (sym (decoded_for a.side a.w _ c.decode_for.ensures) ∙ c.in-Some.is)
-    (reserved_at a.side o a.w before _ _ e c.is_none.ensures c.reserved_bit_set.ensures ∙ c.if-reserved_bit_set.false)
+    (reserved_at a.side o a.w before _ _ e c.is_none-first.ensures c.reserved_bit_set.ensures ∙ c.if-reserved_bit_set.false)
     (sym c.out_of_bounds.ensures ∙ c.if-out_of_bounds.false)
     (sym c.over_100_w.ensures ∙ c.if-over_100_w.false)
     (first_in_order before o (e ∙ c.in_default-before.is))

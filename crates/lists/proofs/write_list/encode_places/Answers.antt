@@ -21,10 +21,10 @@ returns-in_err-words c =
     let l = c.args.list in
     let at = c.loop-i in
     let h = c.loop-i-test.true in
-    let none = was_none c.at.result c.encode.result (sym c.ok_or.ensures.value ∙ c.in_err-words.was) in
+    let none = was_none c.at-too_wide.result c.encode.result (sym c.ok_or.ensures.value ∙ c.in_err-words.was) in
     let out = err_from_is_err_and c.from_residual.result c.from_residual.ensures.1 in
     out.1
-    ∙ ap Err (out.2 ∙ none.1 ∙ c.at.ensures)
+    ∙ ap Err (out.2 ∙ none.1 ∙ c.at-too_wide.ensures)
     ∙ wide_word (encoded_at l.places) at.i l.count at.words at.invariant.0 (counted_below l.places l.count at.i h) at.invariant.1
     (sym (encoded_in l.places l.count at.i c.encode.result h c.encode.ensures) ∙ none.0)
 
@@ -37,7 +37,7 @@ loop-i-preserved c =
       one_made (encoded_at l.places) at.i c.in_ok-words.field-0 at.words
           (omega (arith, counted_below l.places l.count at.i h, count_high l.count at.invariant.0)) at.invariant.1
           (sym (encoded_in l.places l.count at.i c.encode.result h c.encode.ensures)
-          ∙ was_some c.at.result c.encode.result (sym c.ok_or.ensures.value ∙ c.in_ok-words.was)),
+          ∙ was_some c.at-too_wide.result c.encode.result (sym c.ok_or.ensures.value ∙ c.in_ok-words.was)),
     )
 
 pub returns : goal.returns
