@@ -1,6 +1,16 @@
 // Numbers as bytes, "the low byte first": the 16 bits of a header, and the 32 of a word.
-ghost use Rattle.std.specs.Prelude.{◌≡◌, length};
-ghost use Rattle.messages.specs.LowFirst.{word_at, two_bytes, four_bytes};
+ghost use Rattle.std.specs.Prelude.{◌≡◌, ◌<◌, ◌≤◌, length, MatchOption};
+ghost use Rattle.messages.specs.LowFirst.{half_at, word_at, two_bytes, four_bytes};
+
+// The first two bytes, where there are two.
+pub(crate) fn half_of(bytes: &[u8]) -> Option<u16>
+    ensures { MatchOption result (length bytes.now < 2) (λ half. (2 ≤ length bytes.now) × (half ≡ half_at bytes.now 0)) }
+{
+    let [low, high, ..] = bytes else {
+        return None;
+    };
+    Some(u16::from_le_bytes([*low, *high]))
+}
 
 pub(crate) fn word_of(part: &[u8]) -> u32
     requires { length part.now ≡ 4 }

@@ -7,7 +7,7 @@ ghost use Rattle.messages.specs.Promises.{TakesMessage, ReadsMessage};
 
 use crate::headers::header_of;
 use crate::judging::{judge_header, judge_list};
-use crate::low_first::word_of;
+use crate::low_first::{half_of, word_of};
 use crate::{Header, Message, MessageReading};
 use verdicts::Verdict;
 
@@ -32,10 +32,8 @@ fn message_in(bytes: &[u8], header: Header) -> Message
 fn taken_apart(bytes: &[u8]) -> Result<Message, Verdict>
     ensures { result ≡ first_of err (taking_refusals bytes.now) (Ok (message_in bytes.now)) }
 {
-    let [low, high, ..] = bytes else {
-        return Err(Verdict::placeless(verdicts::MESSAGE_LENGTH));
-    };
-    let header = header_of(u16::from_le_bytes([*low, *high]));
+    let half = half_of(bytes).ok_or(Verdict::placeless(verdicts::MESSAGE_LENGTH))?;
+    let header = header_of(half);
     if bytes.len() != 2 + 4 * header.count as usize {
         return Err(Verdict::placeless(verdicts::MESSAGE_LENGTH));
     }

@@ -1,11 +1,11 @@
 -- `messages::reading::taken_apart` meets its contract: each return cites the law of its case.
 -- Assumes nothing.
-use Rattle.std.specs.Prelude.{Result, Ok, Err}
+use Rattle.std.specs.Prelude.{Option, Some, None, MatchOption, Result, Ok, Err}
+use Rattle.std.specs.Option.{ok_or}
 use mathlib.Core.Path.{◌≡◌, ap, sym, subst, ◌∙◌}
 use mathlib.Core.List.{List}
-use Prim.Native.Nat.{ℕ, ◌+◌, ◌*◌, ◌≤◌}
-use native.Mathlib.Omega.{arith}
-use lib.ListN.{get_or}
+use Prim.Native.Nat.{ℕ, ◌<◌, ◌≤◌}
+use lib.ListN.{length}
 use Rattle.std.proofs.lemmas.Result.{err_from_is_err_and}
 use Rattle.verdicts.specs.declared.Verdict.{Verdict}
 use Rattle.verdicts.specs.Refusals.{err, passed_by}
@@ -29,45 +29,63 @@ given m = Ok m
 abbrev known : List ℕ → Result Message Verdict
 known bs = given (message_in bs)
 
+-- what is said of the first two bytes
+abbrev Halved : List ℕ → Option ℕ → Type 0
+Halved bs o = MatchOption o (length bs < 2) (λ half. (2 ≤ length bs) × (half ≡ half_at bs 0))
+
+missing : (bs : List ℕ) (o : Option ℕ) (v : Verdict) {e : Verdict} → Halved bs o → Err e ≡ ok_or o v → (length bs < 2) × (e ≡ v)
+missing bs None v h q = (h, cc)
+missing bs (Some half) v h q = cc
+
+there : (bs : List ℕ) (o : Option ℕ) (v : Verdict) {half : ℕ} → Halved bs o → Ok half ≡ ok_or o v → (2 ≤ length bs) × (half ≡ half_at bs 0)
+there bs None v h q = cc
+there bs (Some x) v {half} h q = let e : half ≡ x = cc in (h.0, e ∙ h.1)
+
 module _ (bs : List ℕ) {h : Header} where
   -- what is known once the header is there
-  header_is : {half : ℕ} → half ≡ get_or bs 0 0 + get_or bs 1 0 * 256 → h ≡ header_of half → h ≡ header_in bs
-  header_is {half} e f = let low : half ≡ half_at bs 0 = omega (arith, e) in f ∙ ap header_of low
+  header_is : {half : ℕ} → (2 ≤ length bs) × (half ≡ half_at bs 0) → h ≡ header_of half → h ≡ header_in bs
+  header_is e f = f ∙ ap header_of e.1
 
   -- and once it is judged
   judged_is : {r : Result (Unit {0}) Verdict} → h ≡ header_in bs → r ≡ passed_by (header_refusals h) → r ≡ passed_by (header_refusals (header_in bs))
   judged_is e f = f ∙ ap (λ (x : Header). passed_by (header_refusals x)) e
 
-pub returns-in_default : goal.returns-in_default
-returns-in_default c =
+pub returns-in_err-half : goal.returns-in_err-half
+returns-in_err-half c =
     let bs = c.args.bytes.now in
-    ap stop c.placeless.ensures ∙ sym (too_few_bytes err (known bs) bs c.in_default.len_below)
+    let m = missing bs _ _ c.half_of.ensures c.in_err-half.ensures.value in
+    let p = err_from_is_err_and c.from_residual.result c.from_residual.ensures.1 in
+    rw (p.1, p.2) (ap stop (m.1 ∙ c.placeless.ensures) ∙ sym (too_few_bytes err (known bs) bs m.0))
 
 pub returns-then-bytes-header : goal.returns-then-bytes-header
 returns-then-bytes-header c =
     let bs = c.args.bytes.now in
-    let made = header_is bs c.from_le_bytes.ensures c.header_of-header.ensures in
+    let two = there bs _ _ c.half_of.ensures c.in_ok-half.ensures.value in
+    let made = header_is bs two c.header_of-header.ensures in
     ap stop c.placeless-then-bytes-header.ensures ∙ sym (other_length err (known bs) bs (λ e. c.if-bytes-header.true (e ∙ sym (ap length_of made))))
 
 pub returns-in_err-judge_header : goal.returns-in_err-judge_header
 returns-in_err-judge_header c =
     let bs = c.args.bytes.now in
-    let made = header_is bs c.from_le_bytes.ensures c.header_of-header.ensures in
-    let p = err_from_is_err_and c.from_residual.result c.from_residual.ensures.1 in
+    let two = there bs _ _ c.half_of.ensures c.in_ok-half.ensures.value in
+    let made = header_is bs two c.header_of-header.ensures in
+    let p = err_from_is_err_and c.from_residual-in_err-judge_header.result c.from_residual-in_err-judge_header.ensures.1 in
     rw (p.1, p.2)
-    (sym (by_header err (known bs) bs c.in-len2-up.len_at_least (c.if-bytes-header.false ∙ ap length_of made)
+    (sym (by_header err (known bs) bs two.0 (c.if-bytes-header.false ∙ ap length_of made)
     ∙ stops_at tt (header_refusals (header_in bs)) (judged_is bs made c.in_err-judge_header.ensures) err (known bs)))
 
 pub message_in-requires : goal.message_in-requires
 message_in-requires c =
     let bs = c.args.bytes.now in
-    let made = header_is bs c.from_le_bytes.ensures c.header_of-header.ensures in
+    let two = there bs _ _ c.half_of.ensures c.in_ok-half.ensures.value in
+    let made = header_is bs two c.header_of-header.ensures in
     (subst (λ (h : Header). h.count ≤ 7) (sym made) (taken_count (half_at bs 0)), c.if-bytes-header.false)
 
 pub returns : goal.returns
 returns c =
     let bs = c.args.bytes.now in
-    let made = header_is bs c.from_le_bytes.ensures c.header_of-header.ensures in
+    let two = there bs _ _ c.half_of.ensures c.in_ok-half.ensures.value in
+    let made = header_is bs two c.header_of-header.ensures in
     ap given (c.message_in.ensures ∙ ap (λ (h : Header). record { header = h; words = words_in bs h.count }) made)
-    ∙ sym (by_header err (known bs) bs c.in-len2-up.len_at_least (c.if-bytes-header.false ∙ ap length_of made)
+    ∙ sym (by_header err (known bs) bs two.0 (c.if-bytes-header.false ∙ ap length_of made)
     ∙ goes_past tt (header_refusals (header_in bs)) (judged_is bs made c.in_ok-judge_header.ensures) err (known bs))
