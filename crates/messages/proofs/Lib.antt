@@ -1,6 +1,7 @@
 pub mod LowFirst
 pub mod HeaderFields
 pub mod Laying
+pub mod Steps
 pub mod Refusals
 pub mod Parts
 pub mod Readings

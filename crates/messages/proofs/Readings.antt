@@ -1,5 +1,6 @@
 -- The cases of taking a message apart and of reading it.
 -- Assumes nothing.
+use Rattle.std.specs.Prelude.{Ok}
 use mathlib.Core.Path.{◌≡◌, refl, ap, sym, ◌∙◌}
 use mathlib.Core.Bool.{Bool, true, false, not, ◌||◌, or-true}
 use mathlib.Core.List.{List}
@@ -8,12 +9,12 @@ use lib.Dec.{ltb, eqb}
 use lib.ListN.{length}
 use borrow.Author.Tests.{lt-ltb, le-ltb, eq-eqb, ne_eqb}
 use Rattle.verdicts.specs.declared.Verdict.{Verdict}
-use Rattle.verdicts.specs.Refusals.{first_of, verdict_of, NoneApply}
-use Rattle.verdicts.proofs.First.{hit, miss, numbered, numbered_append, none_applied, all_missed, refused_so, onward, stops, said_first}
+use Rattle.verdicts.specs.Refusals.{first_of, err, verdict_of, NoneApply}
+use Rattle.verdicts.proofs.First.{hit, miss, numbered, numbered_append, none_applied, all_missed, onward, onto, said_first}
 use Rattle.messages.specs.declared.MessageReading.{MessageReading}
 use Rattle.messages.specs.Headers.{length_of}
 use Rattle.messages.specs.Refusing.{header_refusals, list_refusals}
-use Rattle.messages.specs.Reading.{header_in, message_in, taking_refusals, reading_refusals, reading_refused, read_as, taken_of, message_read_of}
+use Rattle.messages.specs.Reading.{header_in, message_in, taking_refusals, reading_refusals, reading_refused, reading_told, read_as, taken_of, message_read_of}
 use Rattle.messages.proofs.Refusals.{list_numbered}
 
 -- ---- 40
@@ -21,32 +22,32 @@ use Rattle.messages.proofs.Refusals.{list_numbered}
 abbrev pub wrong_length : List ℕ → Bool
 wrong_length bs = ltb (length bs) 2 || not (eqb (length bs) (length_of (header_in bs)))
 
-module _ (bs : List ℕ) where
-  pub too_few_bytes : length bs < 2 → taken_of bs ≡ reading_refused 40 0
-  unfolding taken_of
-  too_few_bytes h = hit reading_refused (read_as bs) 40 0 _ (simp (lt-ltb (length bs) 2 h))
+-- any answer over the rows of taking apart
+module _ {A : Type 0} (refused : ℕ → ℕ → A) (answer : A) (bs : List ℕ) where
+  abbrev taking : A
+  taking = first_of refused (taking_refusals bs) answer
 
-  pub other_length : (length bs ≡ length_of (header_in bs) → ⊥) → taken_of bs ≡ reading_refused 40 0
-  unfolding taken_of
-  other_length e = hit reading_refused (read_as bs) 40 0 _ (simp (ne_eqb (length bs) (length_of (header_in bs)) e) (or-true (ltb (length bs) 2)))
+  pub too_few_bytes : length bs < 2 → taking ≡ refused 40 0
+  too_few_bytes h = hit refused answer 40 0 _ (simp (lt-ltb (length bs) 2 h))
+
+  pub other_length : (length bs ≡ length_of (header_in bs) → ⊥) → taking ≡ refused 40 0
+  other_length e = hit refused answer 40 0 _ (simp (ne_eqb (length bs) (length_of (header_in bs)) e) (or-true (ltb (length bs) 2)))
 
   module _ (h : 2 ≤ length bs) (e : length bs ≡ length_of (header_in bs)) where
-    pub right_length : wrong_length bs ≡ false
+    right_length : wrong_length bs ≡ false
     right_length = simp (le-ltb (length bs) 2 h, eq-eqb (length bs) (length_of (header_in bs)) e)
 
-    -- ---- 42, 41, 53
+    -- 42, 41, 53
+    pub by_header : taking ≡ first_of refused (header_refusals (header_in bs)) answer
+    by_header = miss refused answer 40 0 _ right_length
 
-    pub header_refused : ((verdict_of (header_refusals (header_in bs))).number ≡ 0 → ⊥)
-        → taken_of bs ≡ reading_refused (verdict_of (header_refusals (header_in bs))).number (verdict_of (header_refusals (header_in bs))).place
-    unfolding taken_of
-    header_refused f =
-        miss reading_refused (read_as bs) 40 0 _ right_length ∙ refused_so reading_refused (header_refusals (header_in bs)) f (read_as bs)
-
-    pub taken_apart_lem : (verdict_of (header_refusals (header_in bs))).number ≡ 0 → taken_of bs ≡ read_as bs
-    unfolding taken_of
-    taken_apart_lem z =
-        miss reading_refused (read_as bs) 40 0 _ right_length
-        ∙ all_missed reading_refused (read_as bs) (header_refusals (header_in bs)) (none_applied (header_refusals (header_in bs)) refl z)
+module _ (bs : List ℕ) where
+  pub taken_apart_lem : 2 ≤ length bs → length bs ≡ length_of (header_in bs) → (verdict_of (header_refusals (header_in bs))).number ≡ 0
+      → taken_of bs ≡ read_as bs
+  unfolding taken_of
+  taken_apart_lem h e z =
+      by_header reading_refused (read_as bs) bs h e
+      ∙ all_missed reading_refused (read_as bs) (header_refusals (header_in bs)) (none_applied (header_refusals (header_in bs)) refl z)
 
   -- ---- what the verdict says
 
@@ -67,19 +68,6 @@ module _ (bs : List ℕ) where
   none_taken : (taken_of bs).verdict.number ≡ 0 → NoneApply (taking_refusals bs)
   none_taken z = none_applied (taking_refusals bs) taking_numbered (sym (ap (λ (v : Verdict). v.number) taken_verdict_lem) ∙ z)
 
-  pub taken_as_lem : (taken_of bs).verdict.number ≡ 0 → taken_of bs ≡ read_as bs
-  unfolding taken_of
-  taken_as_lem z = all_missed reading_refused (read_as bs) (taking_refusals bs) (none_taken z)
-
-  -- ---- reading, by what taking apart gave
-
-  pub refused_before : ((taken_of bs).verdict.number ≡ 0 → ⊥) → taken_of bs ≡ message_read_of bs
-  unfolding taken_of message_read_of
-  refused_before f =
-      let g : ((verdict_of (taking_refusals bs)).number ≡ 0 → ⊥) = λ z. f (ap (λ (v : Verdict). v.number) taken_verdict_lem ∙ z) in
-      refused_so reading_refused (taking_refusals bs) g (read_as bs)
-      ∙ sym (stops reading_refused (taking_refusals bs) (list_refusals (message_in bs)) (read_as bs) g)
-
   module _ (z : (taken_of bs).verdict.number ≡ 0) where
     by_its_list : message_read_of bs ≡ first_of reading_refused (list_refusals (message_in bs)) (read_as bs)
     unfolding message_read_of
@@ -87,12 +75,17 @@ module _ (bs : List ℕ) where
         onward reading_refused (read_as bs) (taking_refusals bs) (list_refusals (message_in bs))
         ∙ all_missed reading_refused _ (taking_refusals bs) (none_taken z)
 
-    pub misshapen : ((verdict_of (list_refusals (message_in bs))).number ≡ 0 → ⊥)
-        → message_read_of bs
-        ≡ reading_refused (verdict_of (list_refusals (message_in bs))).number (verdict_of (list_refusals (message_in bs))).place
-    misshapen f = by_its_list ∙ refused_so reading_refused (list_refusals (message_in bs)) f (read_as bs)
-
     pub read_whole : (verdict_of (list_refusals (message_in bs))).number ≡ 0 → message_read_of bs ≡ read_as bs
     read_whole y =
         by_its_list
         ∙ all_missed reading_refused (read_as bs) (list_refusals (message_in bs)) (none_applied (list_refusals (message_in bs)) (list_numbered (message_in bs)) y)
+
+  -- ---- as results
+
+  pub taken_told : reading_told (first_of err (taking_refusals bs) (Ok (message_in bs))) ≡ taken_of bs
+  unfolding taken_of
+  taken_told = onto reading_told err (taking_refusals bs) (Ok (message_in bs))
+
+  pub read_told : reading_told (first_of err (reading_refusals bs) (Ok (message_in bs))) ≡ message_read_of bs
+  unfolding message_read_of
+  read_told = onto reading_told err (reading_refusals bs) (Ok (message_in bs))

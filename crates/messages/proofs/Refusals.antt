@@ -3,9 +3,10 @@
 use mathlib.Core.Path.{◌≡◌, refl}
 use mathlib.Core.Bool.{Bool, true, false, cond}
 use mathlib.Core.List.{[]}
+use Prim.Native.Nat.{ℕ}
 use lib.Dec.{eqb}
 use borrow.Author.Tests.{eq-eqb, ne_eqb}
-use Rattle.verdicts.specs.Refusals.{first_of, verdict, success, verdict_of}
+use Rattle.verdicts.specs.Refusals.{first_of}
 use Rattle.verdicts.proofs.First.{numbered}
 use Rattle.objects.specs.declared.Side.TheVariants.{Source}
 use Rattle.lists.specs.Shape.{shape_refusals}
@@ -14,28 +15,32 @@ use Rattle.messages.specs.declared.Header.{Header}
 use Rattle.messages.specs.declared.Message.{Message}
 use Rattle.messages.specs.Refusing.{header_refusals, list_in, list_refusals}
 
--- ---- the header, case by case
+-- ---- the header, case by case, and any answer over its rows
 
-module _ (h : Header) where
-  pub extended_refused : (h.extended ≡ 0 → ⊥) → verdict_of (header_refusals h) ≡ verdict 42 0
+module _ {A : Type 0} (refused : ℕ → ℕ → A) (answer : A) (h : Header) where
+  abbrev judged : A
+  judged = first_of refused (header_refusals h) answer
+
+  pub extended_refused : (h.extended ≡ 0 → ⊥) → judged ≡ refused 42 0
   unfolding first_of
   extended_refused e = simp (ne_eqb h.extended 0 e)
 
-  pub list_passes : h.extended ≡ 0 → h.message_type ≡ 1 → verdict_of (header_refusals h) ≡ success
-  unfolding first_of
-  list_passes e t = rw (e, t)
+  module _ (e : h.extended ≡ 0) where
+    pub list_passes : h.message_type ≡ 1 → judged ≡ answer
+    unfolding first_of
+    list_passes t = rw (e, t)
 
-  pub request_passes : h.extended ≡ 0 → h.message_type ≡ 2 → h.count ≡ 1 → verdict_of (header_refusals h) ≡ success
-  unfolding first_of
-  request_passes e t n = rw (e, t, n)
+    pub request_passes : h.message_type ≡ 2 → h.count ≡ 1 → judged ≡ answer
+    unfolding first_of
+    request_passes t n = rw (e, t, n)
 
-  pub request_miscounted : h.extended ≡ 0 → h.message_type ≡ 2 → (h.count ≡ 1 → ⊥) → verdict_of (header_refusals h) ≡ verdict 53 0
-  unfolding first_of
-  request_miscounted e t n = rw (e, t) (simp (ne_eqb h.count 1 n))
+    pub request_miscounted : h.message_type ≡ 2 → (h.count ≡ 1 → ⊥) → judged ≡ refused 53 0
+    unfolding first_of
+    request_miscounted t n = rw (e, t) (simp (ne_eqb h.count 1 n))
 
-  pub other_refused : h.extended ≡ 0 → (h.message_type ≡ 1 → ⊥) → (h.message_type ≡ 2 → ⊥) → verdict_of (header_refusals h) ≡ verdict 41 0
-  unfolding first_of
-  other_refused e s t = rw e (simp (ne_eqb h.message_type 1 s, ne_eqb h.message_type 2 t))
+    pub other_refused : (h.message_type ≡ 1 → ⊥) → (h.message_type ≡ 2 → ⊥) → judged ≡ refused 41 0
+    unfolding first_of
+    other_refused s t = rw e (simp (ne_eqb h.message_type 1 s, ne_eqb h.message_type 2 t))
 
 -- ---- the list
 

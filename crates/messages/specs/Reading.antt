@@ -1,6 +1,7 @@
 -- Reading a message and taking it apart (STATEMENT, "Messages").
 -- Assumes nothing.
-use Rattle.std.specs.Prelude.{not, ◌||◌, List, ◌∷◌, ◌++◌, ℕ, ◌+◌, ◌*◌, eqb, ltb, length, replicate}
+use Rattle.std.specs.Prelude.{not, ◌||◌, List, ◌∷◌, ◌++◌, ℕ, ◌+◌, ◌*◌, eqb, ltb, length, replicate, Result, Ok, Err}
+use Rattle.verdicts.specs.declared.Verdict.{Verdict}
 use Rattle.verdicts.specs.Refusals.{Refusal, refusal, first_of, verdict, success}
 use Rattle.lists.specs.Seven.{seven_to}
 use Rattle.messages.specs.declared.Header.{Header}
@@ -40,6 +41,11 @@ no_message =
 
 abbrev pub reading_refused : ℕ → ℕ → MessageReading
 reading_refused n p = record { verdict = verdict n p; message = no_message }
+
+-- the reading of a result: on a refusal the message is all zeros
+abbrev pub reading_told : Result Message Verdict → MessageReading
+reading_told (Ok m) = record { verdict = success; message = m }
+reading_told (Err v) = record { verdict = v; message = no_message }
 
 abbrev pub read_as : List ℕ → MessageReading
 read_as bs = record { verdict = success; message = message_in bs }

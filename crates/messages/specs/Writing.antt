@@ -1,6 +1,7 @@
 -- Writing a message into a buffer that is lent (STATEMENT, "Messages").
 -- Assumes nothing.
-use Rattle.std.specs.Prelude.{not, List, [], ◌∷◌, ◌++◌, ℕ, zero, suc, ltb, length, drop, get_or}
+use Rattle.std.specs.Prelude.{not, List, [], ◌∷◌, ◌++◌, ℕ, zero, suc, ltb, length, drop, get_or, Result, Ok, Err}
+use Rattle.verdicts.specs.declared.Verdict.{Verdict}
 use Rattle.verdicts.specs.Refusals.{Refusal, refusal, first_of, verdict, success}
 use Rattle.objects.specs.Layout.{all_fit, joined}
 use Rattle.messages.specs.declared.Message.{Message}
@@ -26,6 +27,11 @@ writing_refusals room m =
 
 abbrev pub writing_refused : ℕ → ℕ → Written
 writing_refused n p = record { verdict = verdict n p; length = 0 }
+
+-- the answer of a result: on a refusal the length is 0
+abbrev pub writing_told : Result ℕ Verdict → Written
+writing_told (Ok n) = record { verdict = success; length = n }
+writing_told (Err v) = record { verdict = v; length = 0 }
 
 -- "It answers the length."
 unfoldable pub written_of : ℕ → Message → Written

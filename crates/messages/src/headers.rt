@@ -5,7 +5,7 @@ ghost use Rattle.messages.specs.Headers.{header_of, fields_of};
 
 use crate::Header;
 
-pub(crate) fn header_of(half: u32) -> Header
+pub(crate) fn header_of(half: u16) -> Header
     ensures { result ≡ header_of half }
 {
     Header {
@@ -23,37 +23,25 @@ pub(crate) fn header_of(half: u32) -> Header
 pub(crate) fn too_wide(header: Header) -> bool
     ensures { result ≡ not (all_fit (fields_of header)) }
 {
-    if 32 <= header.message_type {
-        return true;
-    }
-    if 2 <= header.data_role {
-        return true;
-    }
-    if 4 <= header.revision {
-        return true;
-    }
-    if 2 <= header.power_role {
-        return true;
-    }
-    if 8 <= header.id {
-        return true;
-    }
-    if 8 <= header.count {
-        return true;
-    }
-    2 <= header.extended
+    32 <= header.message_type
+        || 2 <= header.data_role
+        || 4 <= header.revision
+        || 2 <= header.power_role
+        || 8 <= header.id
+        || 8 <= header.count
+        || 2 <= header.extended
 }
 
 // The 16 bits of a header whose fields fit.
-pub(crate) fn half_of_header(header: Header) -> u32
+pub(crate) fn half_of_header(header: Header) -> u16
     requires { all_fit (fields_of header) ≡ true }
     ensures { result ≡ joined (fields_of header) }
 {
-    (header.message_type as u32)
-        | ((header.data_role as u32) << 5)
-        | ((header.revision as u32) << 6)
-        | ((header.power_role as u32) << 8)
-        | ((header.id as u32) << 9)
-        | ((header.count as u32) << 12)
-        | ((header.extended as u32) << 15)
+    u16::from(header.message_type)
+        | (u16::from(header.data_role) << 5)
+        | (u16::from(header.revision) << 6)
+        | (u16::from(header.power_role) << 8)
+        | (u16::from(header.id) << 9)
+        | (u16::from(header.count) << 12)
+        | (u16::from(header.extended) << 15)
 }

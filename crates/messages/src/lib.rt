@@ -3,6 +3,10 @@
 
 #![tactic(auto)]
 
+ghost use Rattle.std.specs.Prelude.{◌≡◌};
+ghost use Rattle.messages.specs.Reading.{reading_told};
+ghost use Rattle.messages.specs.Writing.{writing_told};
+
 mod headers;
 mod judging;
 mod low_first;
@@ -10,7 +14,7 @@ mod reading;
 mod writing;
 
 pub use reading::{read_message, take_message};
-use verdicts::Verdict;
+use verdicts::{PASSED, Verdict};
 pub use writing::write_message;
 
 // The type of Source_Capabilities, whose words are a list.
@@ -62,6 +66,24 @@ pub struct MessageReading {
     pub message: Message,
 }
 
+// What reading answers, from what went on by `?`.
+impl From<Result<Message, Verdict>> for MessageReading {
+    ghost from_gives = { λ r m. m ≡ reading_told r };
+
+    fn from(read: Result<Message, Verdict>) -> MessageReading {
+        match read {
+            Ok(message) => MessageReading {
+                verdict: PASSED,
+                message,
+            },
+            Err(verdict) => MessageReading {
+                verdict,
+                message: NO_MESSAGE,
+            },
+        }
+    }
+}
+
 // What writing a message gives: on a refusal the length is 0, and no byte was written.
 #[repr(C)]
 #[derive(Clone, Copy)]
@@ -70,6 +92,21 @@ pub struct Written {
     pub verdict: Verdict,
     // How many bytes were written, from the first on.
     pub length: u8,
+}
+
+// What writing answers, from what went on by `?`.
+impl From<Result<u8, Verdict>> for Written {
+    ghost from_gives = { λ r w. w ≡ writing_told r };
+
+    fn from(written: Result<u8, Verdict>) -> Written {
+        match written {
+            Ok(length) => Written {
+                verdict: PASSED,
+                length,
+            },
+            Err(verdict) => Written { verdict, length: 0 },
+        }
+    }
 }
 
 // A message with all fields zero, as it is on every refusal.

@@ -1,6 +1,6 @@
 -- What a word says in the list of a sink, and the word of a sink object (STATEMENT, "Sink objects").
 -- Assumes nothing.
-use Rattle.std.specs.Prelude.{cond, List, [], ◌∷◌, ℕ, zero, suc, Option, Some, None}
+use Rattle.std.specs.Prelude.{cond, List, [], ◌∷◌, ℕ, zero, suc, Option, Some, None, Result, Ok, Err}
 use Rattle.objects.specs.Bits.{bits}
 use Rattle.objects.specs.Layout.{Field, field}
 use Rattle.objects.specs.Decode.{kind_bits, not_allowed_for}
@@ -85,3 +85,11 @@ as_object (Fixed f v a) = source.Fixed f 0 v a
 as_object (Battery x m p) = source.Battery x m p
 as_object (Variable x m a) = source.Variable x m a
 as_object (Pps x m a) = source.Pps 0 x m a
+
+-- and back: without them. No sink has an AVS object
+abbrev pub of_sink : Object → Result SinkObject Object
+of_sink (source.Fixed f p v a) = Ok (Fixed f v a)
+of_sink (source.Battery x m p) = Ok (Battery x m p)
+of_sink (source.Variable x m a) = Ok (Variable x m a)
+of_sink (source.Pps l x m a) = Ok (Pps x m a)
+of_sink (source.Avs p l h) = Err (source.Avs p l h)

@@ -1,11 +1,12 @@
 // The list of a sink: its shape, reading and writing (docs/STATEMENT.md, "Shape of a sink list").
-ghost use Rattle.std.specs.Prelude.{◌≡◌, ◌≤◌};
-ghost use Rattle.sinks.specs.SinkLists.{sink_place, sink_objects_to, sink_made_of};
+ghost use Rattle.std.specs.Prelude.{◌≡◌, ◌≤◌, Ok};
+ghost use Rattle.verdicts.specs.Refusals.{first_of, err};
+ghost use Rattle.sinks.specs.SinkLists.{sink_place, sink_objects_to, sink_words_of, sink_making_refusals};
 ghost use Rattle.sinks.specs.Promises.{SinkShapes, SinkReads, SinkWrites};
 
 use crate::sink_words::{sink_decode, sink_encode};
 use crate::{EMPTY_SINK_PLACE, SinkObjects, SinkPlace, SinkReading};
-use lists::{Listing, Words, refuse};
+use lists::{Listing, Words};
 use objects::Side;
 use verdicts::Verdict;
 
@@ -16,14 +17,14 @@ pub fn sink_shape(list: Words) -> Verdict
     lists::shape_for(Side::Sink, list)
 }
 
+// The object of a word. A list whose shape passes has one in every word.
 fn place_of(w: u32) -> SinkPlace
     ensures { result ≡ sink_place w }
 {
-    let d = sink_decode(w);
-    let Some(object) = d else {
-        return EMPTY_SINK_PLACE;
-    };
-    SinkPlace { object }
+    match sink_decode(w) {
+        Some(object) => SinkPlace { object },
+        None => EMPTY_SINK_PLACE,
+    }
 }
 
 // The sink objects of so many words, each in its place; empty places past them.
@@ -32,13 +33,8 @@ fn decode_words(list: Words, count: u8) -> SinkObjects
     ensures { result ≡ sink_objects_to list.words count }
 {
     let mut places = [EMPTY_SINK_PLACE; 7];
-    let mut i: u8 = 0;
-    while i < count {
-        let at = i as usize;
-        let w = list.words[at];
-        let place = place_of(w);
-        places[at] = place;
-        i += 1;
+    for (i, w) in list.words[..count as usize].iter().enumerate() {
+        places[i] = place_of(*w);
     }
     SinkObjects { places, count }
 }
@@ -48,47 +44,34 @@ pub fn sink_read(list: Words) -> SinkReading
     ensures { SinkReads list result }
 {
     let shaped = lists::readable(Side::Sink, list);
-    let verdict = shaped.verdict;
-    let objects = decode_words(list, shaped.count);
     SinkReading {
-        verdict,
-        list: objects,
+        verdict: shaped.verdict,
+        list: decode_words(list, shaped.count),
     }
 }
 
 // The word of each sink object, until one has a field too wide.
-fn encode_places(list: SinkObjects) -> Listing
-    ensures { result ≡ sink_made_of list }
+fn encode_places(list: SinkObjects) -> Result<Words, Verdict>
+    ensures { result ≡ first_of err (sink_making_refusals list) (Ok (sink_words_of list)) }
 {
     let count = list.count;
     if lists::bad_count(count) {
-        return refuse(verdicts::COUNT, 0);
+        return Err(Verdict::placeless(verdicts::COUNT));
     }
     let mut words = [0u32; 7];
-    let mut i: u8 = 0;
-    while i < count {
-        let at = i as usize;
-        let place = list.places[at];
-        let object = place.object;
-        let e = sink_encode(object);
-        let Some(w) = e else {
-            return refuse(verdicts::FIELD_TOO_WIDE, i + 1);
-        };
-        words[at] = w;
-        i += 1;
+    for (i, place) in list.places[..count as usize].iter().enumerate() {
+        words[i] = sink_encode(place.object).ok_or(Verdict::at(
+            verdicts::FIELD_TOO_WIDE,
+            i as u8 + 1,
+        ))?;
     }
-    Listing {
-        verdict: Verdict {
-            number: verdicts::SUCCESS,
-            place: 0,
-        },
-        list: Words { words, count },
-    }
+    Ok(Words { words, count })
 }
 
 // The words of a list of sink objects. Refusals: 10; 7 (the first such object); then those of `sink_shape` for the words made.
+#[tactic(auto, using(crate::proofs::Makings::making_finished))]
 pub fn sink_write(list: SinkObjects) -> Listing
     ensures { SinkWrites list result }
 {
-    lists::finished(Side::Sink, encode_places(list))
+    lists::finished(Side::Sink, Listing::from(encode_places(list)))
 }

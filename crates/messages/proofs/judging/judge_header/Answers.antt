@@ -1,20 +1,27 @@
 -- `messages::judging::judge_header` meets its contract: each return is a row of the table, or that none applies.
 -- Assumes nothing.
-use mathlib.Core.Path.{sym, ◌∙◌}
+use Rattle.std.specs.Prelude.{Result, Ok, Err}
+use mathlib.Core.Path.{sym, ap, ◌∙◌}
+use native.Mathlib.Omega.{arith}
+use Rattle.verdicts.specs.declared.Verdict.{Verdict}
+use Rattle.verdicts.specs.Refusals.{err}
 use Rattle.messages.proofs.Refusals.{extended_refused, list_passes, request_passes, request_miscounted, other_refused}
 use Rattle.messages.proofs.judging.judge_header.Goals as goal
 
+abbrev stop : Verdict → Result (Unit {0}) Verdict
+stop v = Err v
+
 pub returns-then-header-ne0 : goal.returns-then-header-ne0
-returns-then-header-ne0 c = c.placeless.ensures ∙ sym (extended_refused c.args.header c.if-header-ne0.true)
+returns-then-header-ne0 c = ap stop c.placeless.ensures ∙ sym (extended_refused err (Ok tt) c.args.header c.if-header-ne0.true)
 
-pub returns-then-header-eq-SOURCE_CAPABILITIES : goal.returns-then-header-eq-SOURCE_CAPABILITIES
-returns-then-header-eq-SOURCE_CAPABILITIES c = c.placeless-then-header-eq-SOURCE_CAPABILITIES.ensures ∙ sym (list_passes c.args.header c.if-header-ne0.false c.if-header-eq-SOURCE_CAPABILITIES.true)
+pub returns-in-1 : goal.returns-in-1
+returns-in-1 c = sym (list_passes err (Ok tt) c.args.header c.if-header-ne0.false c.in-1.is)
 
-pub returns-then-header-ne-REQUEST : goal.returns-then-header-ne-REQUEST
-returns-then-header-ne-REQUEST c = c.placeless-then-header-ne-REQUEST.ensures ∙ sym (other_refused c.args.header c.if-header-ne0.false c.if-header-eq-SOURCE_CAPABILITIES.false c.if-header-ne-REQUEST.true)
+pub returns-in-2 : goal.returns-in-2
+returns-in-2 c = sym (request_passes err (Ok tt) c.args.header c.if-header-ne0.false c.in-2.is c.if-header-eq1.true)
 
-pub returns-then-header-ne1 : goal.returns-then-header-ne1
-returns-then-header-ne1 c = c.placeless-then-header-ne1.ensures ∙ sym (request_miscounted c.args.header c.if-header-ne0.false c.if-header-ne-REQUEST.false c.if-header-ne1.true)
+pub returns-in-2-2 : goal.returns-in-2-2
+returns-in-2-2 c = ap stop c.placeless-in-2-2.ensures ∙ sym (request_miscounted err (Ok tt) c.args.header c.if-header-ne0.false c.in-2.is c.if-header-eq1.false)
 
-pub returns : goal.returns
-returns c = c.placeless-2.ensures ∙ sym (request_passes c.args.header c.if-header-ne0.false c.if-header-ne-REQUEST.false c.if-header-ne1.false)
+pub returns-in_default : goal.returns-in_default
+returns-in_default c = ap stop c.placeless-in_default.ensures ∙ sym (other_refused err (Ok tt) c.args.header c.if-header-ne0.false (omega arith) (omega arith))

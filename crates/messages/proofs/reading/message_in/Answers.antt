@@ -1,33 +1,22 @@
 -- `messages::reading::message_in` meets its contract: the invariant is that the words so far are those of the bytes.
 -- Assumes nothing.
-use borrow.Author.Rules.{rules}
-use mathlib.Core.Path.{◌≡◌, ap, ap₂, ◌∙◌}
+use mathlib.Core.Path.{ap, ap₂, ◌∙◌}
 use Prim.Native.Nat.{ℕ, ◌+◌, ◌*◌}
 use native.Mathlib.Omega.{arith}
 use lib.ListN.{set}
 use Rattle.lists.proofs.Sevens.{none_filled, one_filled}
 use Rattle.messages.specs.declared.Message.{Message}
 use Rattle.messages.specs.LowFirst.{word_at}
-use Rattle.messages.specs.Reading.{words_in}
 use Rattle.messages.proofs.Parts.{word_in_part}
 use Rattle.messages.proofs.reading.message_in.Invariants.{carrying}
 use Rattle.messages.proofs.reading.message_in.Goals as goal
 
 pub loop-i-init : goal.loop-i-init
-loop-i-init c = (search rules, ap (carrying c.args.header) (none_filled _ _))
+loop-i-init c = ap (carrying c.args.header) (none_filled _ _)
 
 pub loop-i-preserved : goal.loop-i-preserved
 loop-i-preserved c =
     let turn = c.loop-i in
     let bs = c.args.bytes.now in
-    let h = c.args.header in (
-      search rules,
-      ap₂ (λ (m : Message) (w : ℕ). carrying m.header (set m.words turn.i w)) turn.invariant.1 (c.word_of.ensures ∙ word_in_part bs (2 + 4 * turn.i))
-          ∙ ap (carrying h) (one_filled (λ (k : ℕ). word_at bs (2 + 4 * k)) 0 turn.i (omega arith)),
-    )
-
-pub returns : goal.returns
-returns c =
-    let turn = c.loop-i in
-    let e : turn.i ≡ c.args.header.count = omega arith in
-    turn.invariant.1 ∙ ap (λ (n : ℕ). carrying c.args.header (words_in c.args.bytes.now n)) e
+    ap₂ (λ (m : Message) (w : ℕ). carrying m.header (set m.words turn.i w)) turn.invariant (c.word_of.ensures ∙ word_in_part bs (2 + 4 * turn.i))
+    ∙ ap (carrying c.args.header) (one_filled (λ (k : ℕ). word_at bs (2 + 4 * k)) 0 turn.i (omega arith))

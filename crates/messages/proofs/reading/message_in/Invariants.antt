@@ -2,7 +2,7 @@
 -- Assumes nothing.
 use mathlib.Core.Path.{◌≡◌}
 use mathlib.Core.List.{List}
-use Prim.Native.Nat.{ℕ, ◌-◌, ◌≤◌}
+use Prim.Native.Nat.{ℕ}
 use Rattle.messages.specs.declared.Header.{Header}
 use Rattle.messages.specs.declared.Message.{Message}
 use Rattle.messages.specs.Reading.{words_in}
@@ -12,7 +12,4 @@ abbrev pub carrying : Header → List ℕ → Message
 carrying h ws = record { header = h; words = ws }
 
 abbrev pub invariant-loop-i : goal.invariant-loop-i
-invariant-loop-i l = (l.i ≤ l.count) × (l.message ≡ carrying l.initial.message.header (words_in l.bytes l.i))
-
-abbrev pub decreases-loop-i : goal.decreases-loop-i
-decreases-loop-i l = l.count - l.i
+invariant-loop-i l = l.message ≡ carrying l.initial.message.header (words_in l.bytes l.i)

@@ -2,14 +2,8 @@
 -- them what was there.
 -- Assumes nothing.
 use mathlib.Core.Path.{◌≡◌}
-use Prim.Native.Nat.{◌+◌, ◌-◌, ◌*◌, ◌≤◌}
-use lib.ListN.{length}
 use Rattle.messages.proofs.Laying.{laid_to}
 use Rattle.messages.proofs.writing.put_message.Given as goal
 
 abbrev pub invariant-loop-i : goal.invariant-loop-i
-invariant-loop-i l =
-    (l.i ≤ l.count) × (l.bytes ≡ laid_to l.initial.bytes l.half l.message.words l.i) × (2 + 4 * l.count ≤ length l.initial.bytes) × (l.count ≤ 7)
-
-abbrev pub decreases-loop-i : goal.decreases-loop-i
-decreases-loop-i l = l.count - l.i
+invariant-loop-i l = l.bytes ≡ laid_to l.initial.bytes l.half l.message.words l.i

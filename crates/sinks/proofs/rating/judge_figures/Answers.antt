@@ -1,37 +1,39 @@
--- `sinks::rating::judge_figures` meets its contract: the invariant is that no figure passed is above its ceiling.
+-- `sinks::rating::judge_figures` meets its contract: any word above its ceiling will do.
 -- Assumes nothing.
+use Rattle.std.specs.Prelude.{Result, Ok, Err}
+use Rattle.std.specs.List.{list_any}
 use borrow.Author.Rules.{rules}
-use mathlib.Core.Path.{◌≡◌, sym, ◌∙◌, subst}
-use mathlib.Core.List.{[]}
+use mathlib.Core.Path.{◌≡◌, sym, ap, ◌∙◌}
+use mathlib.Core.Bool.{Bool, cond}
+use mathlib.Core.List.{List}
 use Prim.Native.Nat.{ℕ}
-use native.Mathlib.Omega.{arith}
+use lib.ListN.{length}
+use Rattle.std.proofs.Common.{tests}
+use Rattle.std.proofs.lemmas.Iterator.{YieldsList-from_slice}
+use Rattle.std.proofs.lemmas.Iterator.Search.{any_from_yields_List}
 use Rattle.verdicts.specs.declared.Verdict.{Verdict}
-use Rattle.verdicts.specs.Refusals.{each_place, verdict, success, NoneApply}
-use Rattle.verdicts.proofs.First.{hit, none_yet, none_more, all_missed, decided}
-use Rattle.sinks.specs.Rating.{ceiling_rows}
+use Rattle.verdicts.specs.Refusals.{each_place, err, passed_by}
+use Rattle.sinks.specs.Rating.{word_above, ceiling_rows}
+use Rattle.sinks.proofs.Figures.{by_any}
 use Rattle.sinks.proofs.rating.judge_figures.Goals as goal
 
-pub loop-i-init : goal.loop-i-init
-loop-i-init c = (search rules, none_yet _)
+-- what the answer to `any` says of the rows
+told : (rating : ℕ) (ws : List ℕ) {r b : Bool} → r ≡ list_any (word_above rating) ws → r ≡ b
+    → cond b (Err (record { number = 43; place = 0 })) (Ok tt) ≡ passed_by (each_place (ceiling_rows rating ws) (length ws))
+told rating ws e f = ap (λ (x : Bool). cond x (err 43 0) (Ok tt)) (sym f ∙ e) ∙ sym (by_any err rating ws (Ok tt))
 
-pub returns-then-word_above : goal.returns-then-word_above
-returns-then-word_above c =
-    let x = c.args in
-    let at = c.loop-i in
-    sym (decided (ceiling_rows x.rating.0 x.list.words) verdict at.i x.list.count _ c.loop-i-test.true at.invariant.1
-    (λ (v : Verdict). hit verdict v 43 0 [] (sym c.word_above.ensures ∙ c.if-word_above.true)) success)
+abbrev stop : Verdict → Result (Unit {0}) Verdict
+stop v = Err v
 
-pub loop-i-preserved : goal.loop-i-preserved
-loop-i-preserved c =
-    let x = c.args in
-    let at = c.loop-i in (
-      omega arith,
-      none_more (ceiling_rows x.rating.0 x.list.words) at.i at.invariant.1 (sym c.word_above.ensures ∙ c.if-word_above.false, tt),
-    )
+pub returns-then-any : goal.returns-then-any
+returns-then-any c =
+    let a = c.args in
+    ap stop c.placeless.ensures
+    ∙ told a.rating.0 a.words.now
+    (any_from_yields_List (word_above a.rating.0) _ _ _ c.any.ensures.ran (YieldsList-from_slice a.words.now cc) (λ x b q k. search (rules, tests))) c.if-any.true
 
 pub returns : goal.returns
 returns c =
-    let x = c.args in
-    let at = c.loop-i in
-    let e : at.i ≡ x.list.count = omega arith in
-    sym (all_missed verdict success _ (subst (λ (n : ℕ). NoneApply (each_place (ceiling_rows x.rating.0 x.list.words) n)) e at.invariant.1))
+    let a = c.args in
+    told a.rating.0 a.words.now
+    (any_from_yields_List (word_above a.rating.0) _ _ _ c.any.ensures.ran (YieldsList-from_slice a.words.now cc) (λ x b q k. search (rules, tests))) c.if-any.false

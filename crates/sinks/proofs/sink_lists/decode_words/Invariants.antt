@@ -2,7 +2,7 @@
 -- Assumes nothing.
 use mathlib.Core.Path.{◌≡◌}
 use mathlib.Core.List.{List}
-use Prim.Native.Nat.{ℕ, ◌-◌, ◌≤◌}
+use Prim.Native.Nat.{ℕ}
 use lib.ListN.{get_or}
 use Rattle.lists.specs.Seven.{seven_to}
 use Rattle.sinks.specs.declared.SinkPlace.{SinkPlace}
@@ -13,7 +13,4 @@ abbrev pub place_at : List ℕ → ℕ → SinkPlace
 place_at ws k = sink_place (get_or ws k 0)
 
 abbrev pub invariant-loop-i : goal.invariant-loop-i
-invariant-loop-i l = (l.i ≤ l.count) × (l.places ≡ seven_to (place_at l.list.words) empty_sink l.i)
-
-abbrev pub decreases-loop-i : goal.decreases-loop-i
-decreases-loop-i l = l.count - l.i
+invariant-loop-i l = l.places ≡ seven_to (place_at l.fn.list.words) empty_sink l.i

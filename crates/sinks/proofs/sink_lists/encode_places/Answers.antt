@@ -1,39 +1,54 @@
 -- `sinks::sink_lists::encode_places` meets its contract: the invariant is that no object passed is too wide, and the words so far are made.
 -- Assumes nothing.
-use borrow.Author.Rules.{rules}
-use mathlib.Core.Path.{sym, ◌∙◌}
+use Rattle.std.specs.Prelude.{Result, Err}
+use mathlib.Core.Path.{sym, ap, ◌∙◌}
+use Prim.Native.Nat.{◌<◌}
 use native.Mathlib.Omega.{arith}
-use lib.ListN.{get_or}
+use Rattle.std.proofs.lemmas.Result.{err_from_is_err_and}
+use Rattle.verdicts.specs.declared.Verdict.{Verdict}
+use Rattle.lists.specs.declared.Words.{Words}
 use Rattle.lists.proofs.Shapes.{count_high}
-use Rattle.lists.proofs.Writings.{not_made, none_made, one_made, one_wide, all_made}
-use Rattle.sinks.specs.SinkLists.{empty_sink, sink_encoded_at}
-use Rattle.sinks.proofs.SinkWords.{sink_encoded_is}
+use Rattle.lists.proofs.Writings.{none_made, one_made}
+use Rattle.sinks.specs.SinkLists.{sink_encoded_at}
+use Rattle.sinks.proofs.Makings.{counts, all_counted, was_some, was_none, miscounted, made_is, one_wide, all_made}
 use Rattle.sinks.proofs.sink_lists.encode_places.Goals as goal
 
+abbrev stop : Verdict → Result Words Verdict
+stop v = Err v
+
 pub returns-then-bad_count : goal.returns-then-bad_count
-returns-then-bad_count c = c.refuse.ensures ∙ not_made _ _ (sym c.bad_count.ensures ∙ c.if-bad_count.true)
+returns-then-bad_count c = ap stop c.placeless.ensures ∙ miscounted c.args.list (sym c.bad_count.ensures ∙ c.if-bad_count.true)
 
 pub loop-i-init : goal.loop-i-init
-loop-i-init c = let b = sym c.bad_count.ensures ∙ c.if-bad_count.false in (search rules, count_high _ b, b, none_made _)
+loop-i-init c = (sym c.bad_count.ensures ∙ c.if-bad_count.false, none_made _)
 
-pub returns-in_default : goal.returns-in_default
-returns-in_default c =
+pub returns-in_err-words : goal.returns-in_err-words
+returns-in_err-words c =
     let l = c.args.list in
     let at = c.loop-i in
-    c.refuse-in_default.ensures
-    ∙ one_wide (sink_encoded_at l.places) at.i l.count at.words at.invariant.2 c.loop-i-test.true at.invariant.3
-    (sym (sink_encoded_is (get_or l.places at.i empty_sink).object _ c.sink_encode-e.ensures) ∙ c.in_default.is)
+    let h = c.loop-i-test.true in
+    let none = was_none c.sink_encode.result c.at.result c.in_err-words.ensures.value in
+    let is = made_is l at.invariant.0 at.i at.words at.invariant.1 c.sink_encode.result h c.sink_encode.ensures in
+    let p = err_from_is_err_and c.from_residual.result c.from_residual.ensures.1 in
+    rw (p.1, p.2)
+    (ap stop (none.1 ∙ c.at.ensures)
+    ∙ one_wide l at.invariant.0 at.i at.words at.invariant.1 (counts l.places l.count at.i h) (sym is ∙ none.0))
 
 pub loop-i-preserved : goal.loop-i-preserved
 loop-i-preserved c =
     let l = c.args.list in
-    let at = c.loop-i in (
-      omega arith,
-      at.invariant.1,
-      at.invariant.2,
-      one_made (sink_encoded_at l.places) at.i _ at.words (omega arith) at.invariant.3
-          (sym (sink_encoded_is (get_or l.places at.i empty_sink).object _ c.sink_encode-e.ensures) ∙ c.in-Some.is),
+    let at = c.loop-i in
+    let h = c.loop-i-test.true in
+    let is = made_is l at.invariant.0 at.i at.words at.invariant.1 c.sink_encode.result h c.sink_encode.ensures in
+    let below : at.i < 7 = omega (arith, counts l.places l.count at.i h, count_high l.count at.invariant.0) in (
+      at.invariant.0,
+      one_made (sink_encoded_at l.places) at.i c.in_ok-words.field-0 at.words below at.invariant.1
+          (sym is ∙ was_some c.sink_encode.result c.at.result c.in_ok-words.ensures.value),
     )
 
 pub returns : goal.returns
-returns c = all_made _ _ _ _ c.loop-i.invariant.2 (omega arith) c.loop-i.invariant.3
+returns c =
+    let l = c.args.list in
+    let at = c.loop-i in
+    all_made l at.invariant.0 at.i at.words at.invariant.1
+    (all_counted l.places l.count at.i (omega (arith, count_high l.count at.invariant.0)) at.auto.i-end c.loop-i-test.false)

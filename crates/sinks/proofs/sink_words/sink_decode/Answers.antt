@@ -1,14 +1,15 @@
--- `sinks::sink_decode` meets its contract: in each arm the sink object is that of the object bound.
+-- `sinks::sink_decode` meets its contract: the sink object is that of the object of the word, where it has one.
 -- Assumes nothing.
 use Rattle.std.specs.Prelude.{Option, Some}
-use mathlib.Core.Path.{◌≡◌, ap, sym, ◌∙◌}
+use Rattle.std.specs.Result.{result_ok}
+use mathlib.Core.Path.{◌≡◌, refl, ap, sym, ◌∙◌}
 use Prim.Native.Nat.{ℕ}
 use Rattle.objects.specs.declared.Side.TheVariants.{Sink}
 use Rattle.objects.specs.declared.Object.{Object}
+use Rattle.objects.specs.declared.Object.TheVariants as source
 use Rattle.objects.specs.Decode.{decode_for}
-use Rattle.objects.specs.Promises.{DecodesFor}
 use Rattle.objects.proofs.Saying.{decoded_for}
-use Rattle.sinks.specs.SinkWords.{sink_decoded_says, sink_word_says}
+use Rattle.sinks.specs.SinkWords.{sink_decoded_says, sink_word_says, of_sink}
 use Rattle.sinks.proofs.SinkWords.{as_sink, sink_decode_is, sink_word_says_lem}
 use Rattle.sinks.proofs.sink_words.sink_decode.Goals as goal
 
@@ -16,21 +17,16 @@ use Rattle.sinks.proofs.sink_words.sink_decode.Goals as goal
 says : (w : ℕ) (d : Option Object) → decode_for Sink w ≡ d → sink_decoded_says (as_sink d) ≡ sink_word_says w
 says w d e = sym (sink_word_says_lem w ∙ ap sink_decoded_says (sink_decode_is w ∙ ap as_sink e))
 
--- what was decoded is the object that was bound, of this kind
-known : (w : ℕ) (d : Option Object) {o q : Object} → DecodesFor Sink w d → d ≡ Some o → o ≡ q → decode_for Sink w ≡ Some q
-known w d r e f = sym (decoded_for Sink w d r) ∙ e ∙ ap Some f
+bare : (o : Object) → result_ok (of_sink o) ≡ as_sink (Some o)
+bare (source.Fixed f p v a) = refl
+bare (source.Battery x m p) = refl
+bare (source.Variable x m a) = refl
+bare (source.Pps l x m a) = refl
+bare (source.Avs p l h) = refl
 
-pub returns-in-Fixed : goal.returns-in-Fixed
-returns-in-Fixed c = says _ _ (known _ _ c.decode_for-d.ensures c.in-Some.is c.in-Fixed.is)
-
-pub returns-in-Battery : goal.returns-in-Battery
-returns-in-Battery c = says _ _ (known _ _ c.decode_for-d.ensures c.in-Some.is c.in-Battery.is)
-
-pub returns-in-Variable : goal.returns-in-Variable
-returns-in-Variable c = says _ _ (known _ _ c.decode_for-d.ensures c.in-Some.is c.in-Variable.is)
-
-pub returns-in-Pps : goal.returns-in-Pps
-returns-in-Pps c = says _ _ (known _ _ c.decode_for-d.ensures c.in-Some.is c.in-Pps.is)
-
-pub returns-in-Avs : goal.returns-in-Avs
-returns-in-Avs c = says _ _ (known _ _ c.decode_for-d.ensures c.in-Some.is c.in-Avs.is)
+pub returns : goal.returns
+returns c =
+    let w = c.args.w in
+    let o = c.in_ok-object.object in
+    ap sink_decoded_says (c.ok.ensures.value ∙ ap result_ok c.try_from.ensures ∙ bare o)
+    ∙ says w (Some o) (sym (decoded_for Sink w c.decode_for.result c.decode_for.ensures) ∙ c.in_ok-object.was)
