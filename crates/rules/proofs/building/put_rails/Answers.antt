@@ -10,10 +10,10 @@ use Rattle.rules.proofs.PutDown.{none_put, rail_put, room}
 use Rattle.rules.proofs.building.put_rails.Goals as goal
 
 pub loop-row-init : goal.loop-row-init
-loop-row-init c = none_put c.args.port.profile _ c.requires
+loop-row-init c = none_put c.args.port.profile c.requires
 
-pub put_row-at-requires : goal.put_row-at-requires
-put_row-at-requires c =
+pub put_row-requires : goal.put_row-requires
+put_row-requires c =
     let p = c.args.port.profile in
     let i = c.loop-row.row-index in (
       (rail_volts_above_0 i c.loop-row-test.true, rail_volts i),
@@ -22,9 +22,9 @@ put_row-at-requires c =
 
 pub loop-row-preserved : goal.loop-row-preserved
 loop-row-preserved c =
-    rail_put c.args.port.profile c.args.port.within.max c.loop-row.row-index c.loop-row-test.true c.loop-row.invariant c.put_row-at.ensures
+    rail_put c.args.port.profile c.args.port.within.max c.loop-row.row-index c.loop-row-test.true c.loop-row.invariant c.put_row.ensures
 
 pub returns : goal.returns
 returns c =
     let e : c.loop-row.row-index ≡ 4 = omega arith in
-    subst (λ (i : ℕ). PutDown c.args.port.profile (rails_to c.args.port.profile.max.0 i) c.loop-row.words c.loop-row.at) e c.loop-row.invariant
+    subst (λ (i : ℕ). PutDown c.args.port.profile (rails_to c.args.port.profile.max.0 i) c.loop-row.list.words c.loop-row.list.count) e c.loop-row.invariant
