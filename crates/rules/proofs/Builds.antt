@@ -7,10 +7,13 @@ use Prim.Native.Nat.{◌≤◌}
 use native.Mathlib.Omega.{arith}
 use lib.Dec.{eqb}
 use lib.ListN.{length}
-use Rattle.verdicts.specs.Refusals.{refusal, success, verdict_of, NoneApply}
+use Rattle.std.specs.Prelude.{Ok, Err}
+use Rattle.verdicts.specs.declared.Verdict.{Verdict}
+use Rattle.verdicts.specs.Refusals.{refusal, success, first_of, err, passed_by, verdict_of, NoneApply}
 use Rattle.verdicts.proofs.First.{hit, onward, onto, all_missed, refused_so, none_append, numbered, passes}
+use Rattle.verdicts.proofs.Results.{refused_as}
 use Rattle.lists.specs.declared.Listing.{Listing}
-use Rattle.lists.specs.Writing.{no_words, write_refused}
+use Rattle.lists.specs.Writing.{no_words, write_refused, listing_told}
 use Rattle.rules.specs.declared.Profile.{Profile}
 use Rattle.rules.specs.Profiles.{pps_below_maximum, profile_refusals, build_refusals}
 use Rattle.rules.specs.Tables.{base_slots, slots}
@@ -24,25 +27,33 @@ module _ (p : Profile) where
   pub build_numbered : numbered (build_refusals p) ≡ true
   build_numbered = refl
 
-  pub build_refused : ((verdict_of (profile_refusals p)).number ≡ 0 → ⊥)
-      → built_of p ≡ write_refused (verdict_of (profile_refusals p)).number (verdict_of (profile_refusals p)).place
-  unfolding built_of
-  build_refused f =
-      onward write_refused (built_as p) (profile_refusals p) (refusal (pps_below_maximum p) 6 0 ∷ []) ∙ refused_so write_refused (profile_refusals p) f _
+  -- ---- as a result, which the code goes on with by `?`
 
-  pub build_6 : NoneApply (profile_refusals p) → pps_below_maximum p ≡ true → built_of p ≡ write_refused 6 0
+  pub bad_profile : {v : Verdict} → passed_by (profile_refusals p) ≡ Err v → passed_by (build_refusals p) ≡ Err v
+  bad_profile e = onward err (Ok tt) (profile_refusals p) (refusal (pps_below_maximum p) 6 0 ∷ []) ∙ refused_as tt (profile_refusals p) e err _
+
+  pub too_much : NoneApply (profile_refusals p) → pps_below_maximum p ≡ true → passed_by (build_refusals p) ≡ err 6 0
+  too_much x e =
+      onward err (Ok tt) (profile_refusals p) (refusal (pps_below_maximum p) 6 0 ∷ []) ∙ all_missed err _ (profile_refusals p) x ∙ hit err (Ok tt) 6 0 [] e
+
+  pub lists : NoneApply (profile_refusals p) → pps_below_maximum p ≡ false → NoneApply (build_refusals p)
+  lists x e = none_append (profile_refusals p) (refusal (pps_below_maximum p) 6 0 ∷ []) x (e, tt)
+
+  pub none_built : {v : Verdict} → passed_by (build_refusals p) ≡ Err v → first_of err (build_refusals p) (Ok (built_words p)) ≡ Err v
+  none_built e = refused_as tt (build_refusals p) e err (Ok (built_words p))
+
+  pub build_refused : {v : Verdict} → passed_by (build_refusals p) ≡ Err v → built_of p ≡ write_refused v.number v.place
   unfolding built_of
-  build_6 x e =
-      onward write_refused (built_as p) (profile_refusals p) (refusal (pps_below_maximum p) 6 0 ∷ [])
-      ∙ all_missed write_refused _ (profile_refusals p) x
-      ∙ hit write_refused (built_as p) 6 0 [] e
+  build_refused e = refused_as tt (build_refusals p) e write_refused (built_as p)
+
+  -- what a result of the builder tells is its answer
+  pub build_told : listing_told (first_of err (build_refusals p) (Ok (built_words p))) ≡ built_of p
+  unfolding built_of
+  build_told = onto listing_told err (build_refusals p) (Ok (built_words p))
 
   pub build_clear : NoneApply (build_refusals p) → built_of p ≡ built_as p
   unfolding built_of
   build_clear x = all_missed write_refused (built_as p) (build_refusals p) x
-
-  pub build_done : NoneApply (profile_refusals p) → pps_below_maximum p ≡ false → built_of p ≡ built_as p
-  build_done x e = build_clear (none_append (profile_refusals p) (refusal (pps_below_maximum p) 6 0 ∷ []) x (e, tt))
 
   -- ---- the verdict of the builder
 

@@ -2,55 +2,47 @@
 -- Assumes nothing.
 use Rattle.std.specs.Prelude.{Option, Some, None}
 use mathlib.Core.Path.{◌≡◌, refl, sym, ap, ◌∙◌, subst}
-use mathlib.Core.Bool.{Bool, true, false, cond, ◌&&◌, and-eq-true_iff, true≢false, false≢true}
+use mathlib.Core.Bool.{Bool, true, false, cond, ◌&&◌, and-eq-true_iff, false≢true}
 use mathlib.Core.List.{List, [], ◌∷◌}
-use Prim.Native.Nat.{ℕ, zero, suc, ◌+◌, ◌-◌, ◌≤◌, ◌<◌}
+use Prim.Native.Nat.{ℕ, zero, suc, ◌-◌, ◌≤◌, ◌<◌}
 use native.Mathlib.Omega.{arith}
-use lib.Dec.{ltb, eqb}
+use lib.Dec.{leb, ltb, eqb}
 use lib.ListN.{get_or, length}
-use borrow.Author.Tests.{lt-ltb, le-ltb, ltb-true, ltb-false, le-leb, lt-leb, eq-eqb, ne_eqb, eqb-true, eqb-false}
+use borrow.Author.Tests.{leb-true, lt-ltb, le-ltb, ltb-true, ltb-false, le-leb, lt-leb, eq-eqb, ne_eqb}
 use Rattle.steps.proofs.Computed.{every_below, at_each}
 use Rattle.lists.specs.declared.Words.{Words}
 use Rattle.lists.specs.Writing.{no_words}
 use Rattle.lists.proofs.Sevens.{filled_at}
 use Rattle.rules.specs.declared.tables.Rail.{Rail}
 use Rattle.rules.specs.declared.Profile.{Profile}
-use Rattle.rules.specs.Tables.{Slot, Nothing, Fixed, Avs, Prog, row, rails, exceeds, base_slots, prog_slots, slots, holds}
+use Rattle.rules.specs.Tables.{Slot, Nothing, Fixed, Avs, row, rails, base_slots, prog_slots, slots}
 use Rattle.rules.specs.Building.{slot_word, word_for, built_count, built_words}
 use Rattle.rules.specs.Placing.{placed_in, full_at, placed_at}
-use Rattle.rules.proofs.EachMaximum.{at_most_seven, base_within}
-use Rattle.rules.proofs.TableWalk.{Stands, rails_to, rail_on, rail_skipped, after_rails, avs_stands, avs_on, avs_skipped, supply, supplies, supplies_to, supply_stands, supply_on, supply_skipped}
+use Rattle.rules.proofs.EachMaximum.{base_within}
+use Rattle.rules.proofs.TableWalk.{Stands, rails_to, after_rails, avs_stands, avs_on, avs_skipped, supplies_to}
 use Rattle.rules.proofs.Slots.{is_fixed, fixed_is}
 
--- ---- one row further
+-- ---- how far the rows of a table go
 
-abbrev pub moved : ℕ → Bool → ℕ
-moved at b = cond b (at + 1) at
+abbrev all_left : ℕ → Bool
+all_left m = every_below (λ (i : ℕ). leb (rails_to m i) (after_rails m)) 5 && every_below (λ (i : ℕ). leb (supplies_to m i) (length (slots m))) 4
 
-module _ (m i : ℕ) (at next : ℕ) where
-  pub rail_past : i < 4 → at ≡ rails_to m i → next ≡ moved at (exceeds m (get_or rails i (row 0 0))) → next ≡ rails_to m (i + 1)
-  rail_past h e f = go (exceeds m (get_or rails i (row 0 0))) refl where
-    go : (b : Bool) → exceeds m (get_or rails i (row 0 0)) ≡ b → next ≡ rails_to m (i + 1)
-    go true t = f ∙ ap (moved at) t ∙ ap (λ (n : ℕ). n + 1) e ∙ sym (rail_on m i h (ltb-true _ m t))
-    go false t = f ∙ ap (moved at) t ∙ e ∙ sym (rail_skipped m i h (ltb-false _ m t))
+all_left_at : (m : ℕ) → m ≤ 200 → all_left m ≡ true
+unfolding every_below base_slots prog_slots
+all_left_at m high = at_each all_left 201 m refl (omega arith)
 
-  pub supply_past : m ≤ 200 → i < 3 → at ≡ supplies_to m i → next ≡ moved at (holds m (get_or supplies i (supply 0 0 0 0))) → next ≡ supplies_to m (i + 1)
-  supply_past high h e f = go (holds m (get_or supplies i (supply 0 0 0 0))) refl where
-    go : (b : Bool) → holds m (get_or supplies i (supply 0 0 0 0)) ≡ b → next ≡ supplies_to m (i + 1)
-    go true t = f ∙ ap (moved at) t ∙ ap (λ (n : ℕ). n + 1) e ∙ sym (supply_on m high i h t)
-    go false t = f ∙ ap (moved at) t ∙ e ∙ sym (supply_skipped m high i h t)
+module _ (m i : ℕ) (high : m ≤ 200) where
+  pub rails_left : i ≤ 4 → rails_to m i ≤ after_rails m
+  rails_left h =
+      leb-true _ _ (at_each (λ (k : ℕ). leb (rails_to m k) (after_rails m)) 5 i ((and-eq-true_iff _ _).0 (all_left_at m high)).0 (omega arith))
 
--- no place is past the seventh
-pub to_seventh : (m n at : ℕ) (s : Slot) → m ≤ 200 → at ≡ n → Stands m n s → at < 7
-to_seventh m n at s high e st = omega (arith, e, st.within, at_most_seven m high)
+  pub supplies_left : i ≤ 3 → supplies_to m i ≤ length (slots m)
+  supplies_left h =
+      leb-true _ _ (at_each (λ (k : ℕ). leb (supplies_to m k) (length (slots m))) 4 i ((and-eq-true_iff _ _).0 (all_left_at m high)).1 (omega arith))
 
--- the place that is asked for is not passed by
-pub not_passed : (at asked next : ℕ) (b : Bool) → at ≤ asked → (eqb at asked && b) ≡ false → next ≡ moved at b → next ≤ asked
-not_passed at asked next true h e f = go (eqb at asked) refl where
-  go : (c : Bool) → eqb at asked ≡ c → next ≤ asked
-  go true t = absurd (true≢false (sym (ap (λ (x : Bool). x && true) t) ∙ e))
-  go false t = let n = eqb-false at asked t in omega (arith, h, f, n)
-not_passed at asked next false h e f = omega (arith, h, f)
+-- a slot at the place that is asked for
+pub stands_at : (m n asked : ℕ) (s : Slot) → n ≡ asked → Stands m n s → Stands m asked s
+stands_at m n asked s e st = subst (λ (k : ℕ). Stands m k s) e st
 
 -- ---- the fixed part: the row of a place has the place's own number
 
@@ -104,11 +96,14 @@ module _ (p : Profile) (n at : ℕ) where
   unfolding full_at
   none_there h = ap chosen (sym (le-ltb at n h))
 
+pub rails_in_base_lem : (m : ℕ) → after_rails m ≤ length (base_slots m)
+rails_in_base_lem m = go (ltb 54 m) refl where
+  go : (b : Bool) → ltb 54 m ≡ b → after_rails m ≤ length (base_slots m)
+  go true t = omega (arith, avs_on m (ltb-true 54 m t))
+  go false t = omega (arith, avs_skipped m (ltb-false 54 m t))
+
 pub rails_in_base : (m k : ℕ) → k < after_rails m → k < length (base_slots m)
-rails_in_base m k h = go (ltb 54 m) refl where
-  go : (b : Bool) → ltb 54 m ≡ b → k < length (base_slots m)
-  go true t = omega (arith, h, avs_on m (ltb-true 54 m t))
-  go false t = omega (arith, h, avs_skipped m (ltb-false 54 m t))
+rails_in_base m k h = omega (arith, rails_in_base_lem m)
 
 -- the AVS place is the only one after the fixed part and before the supplies
 pub avs_at : (m k : ℕ) → after_rails m ≤ k → k < length (base_slots m) → Stands m k (Avs (ltb 90 m))
@@ -119,14 +114,6 @@ avs_at m k low high = go (ltb 54 m) refl where
       let e : after_rails m ≡ k = omega (arith, avs_on m above, low, high) in
       subst (λ (n : ℕ). Stands m n (Avs (ltb 90 m))) e (avs_stands m above)
   go false t = absurd (omega (arith, avs_skipped m (ltb-false 54 m t), low, high))
-
-pub supply_at : (m i at asked : ℕ) → m ≤ 200 → i < 3 → at ≡ supplies_to m i → (eqb at asked && holds m (get_or supplies i (supply 0 0 0 0))) ≡ true
-    → Stands m asked (Prog (get_or supplies i (supply 0 0 0 0)).volts (get_or supplies i (supply 0 0 0 0)).top.0)
-supply_at m i at asked high h e t =
-    let there = (and-eq-true_iff (eqb at asked) (holds m (get_or supplies i (supply 0 0 0 0)))).0 t in
-    let k : supplies_to m i ≡ asked = sym e ∙ eqb-true at asked there.0 in
-    subst (λ (n : ℕ). Stands m n (Prog (get_or supplies i (supply 0 0 0 0)).volts (get_or supplies i (supply 0 0 0 0)).top.0)) k
-    (supply_stands m high i h there.1)
 
 -- "when W is 1, the programmable supplies"
 module _ (p : Profile) where

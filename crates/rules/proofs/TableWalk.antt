@@ -1,7 +1,9 @@
 -- Walking a table row by row: which place of the port's list has been reached, and what stands there. Said once for both tables.
 -- Assumes nothing.
 use mathlib.Core.Path.{◌≡◌, refl, sym, ap, ◌∙◌}
-use mathlib.Core.Bool.{Bool, true, false, ◌&&◌}
+use mathlib.Core.Bool.{Bool, true, false, ◌&&◌, cond}
+use Rattle.std.specs.List.{count_by, filter}
+use Rattle.std.proofs.lemmas.List.Sums.{length-filter}
 use mathlib.Core.List.{List, [], ◌∷◌, ◌++◌, append_assoc, append-nil}
 use Prim.Native.Nat.{ℕ, zero, suc, ◌+◌, ◌≤◌, ◌<◌}
 use native.Mathlib.Omega.{arith}
@@ -124,6 +126,18 @@ rail_volts_above_0 (suc zero) h = omega arith
 rail_volts_above_0 (suc (suc zero)) h = omega arith
 rail_volts_above_0 (suc (suc (suc zero))) h = omega arith
 rail_volts_above_0 (suc (suc (suc (suc i)))) h = absurd (omega arith)
+
+-- so many rows, so many slots
+kept_rows : (m : ℕ) (rs : List Rail) → length (filter (exceeds m) rs) ≡ length (fixed_slots m rs)
+kept_rows m [] = refl
+kept_rows m (r ∷ rs) = go (exceeds m r) (kept_rows m rs) where
+  go : (b : Bool) → length (filter (exceeds m) rs) ≡ length (fixed_slots m rs)
+      → length (cond b (r ∷ filter (exceeds m) rs) (filter (exceeds m) rs)) ≡ length (slot_if b (Fixed r.volts) ++ fixed_slots m rs)
+  go true e = omega arith
+  go false e = e
+
+pub exceeded : (m : ℕ) (rs : List Rail) → count_by (exceeds m) rs ≡ length (fixed_slots m rs)
+exceeded m rs = sym (length-filter (exceeds m) rs) ∙ kept_rows m rs
 
 -- ---- AVS, after the fixed part
 

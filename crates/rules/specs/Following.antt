@@ -3,9 +3,9 @@
 -- proofs/SetLaw.
 -- Assumes nothing.
 use Rattle.objects.specs.declared.Object.{Object}
-use Rattle.std.specs.Prelude.{Bool, true, not, ◌&&◌, ◌||◌, cond, List, ℕ, zero, suc, ◌+◌, ltb, eqb, get_or, length, Option, None}
+use Rattle.std.specs.Prelude.{Bool, true, not, ◌&&◌, ◌||◌, cond, List, ℕ, zero, suc, ◌+◌, ltb, eqb, get_or, length, Option, Some, None, Result, Ok}
 use Rattle.verdicts.specs.declared.Verdict.{Verdict}
-use Rattle.verdicts.specs.Refusals.{verdict, success}
+use Rattle.verdicts.specs.Refusals.{err}
 use Rattle.objects.specs.Asking.{of_object}
 use Rattle.objects.specs.Decode.{decode_of}
 use Rattle.lists.specs.declared.Words.{Words}
@@ -17,12 +17,18 @@ use Rattle.rules.specs.Tables.{Slot, Nothing, base_slots, slots}
 use Rattle.rules.specs.Sets.{fits}
 use Rattle.rules.specs.Checking.{current_refused}
 
-abbrev pub walk : ℕ → Verdict → Walk
-walk at v = record { at = at; verdict = v }
+abbrev pub walk : ℕ → Option ℕ → Walk
+walk at fault = record { at = at; fault = fault }
 
--- no list has an eighth place
-abbrev pub lost : Walk
-lost = walk 8 success
+-- the first fault is kept
+abbrev pub first_fault : Option ℕ → ℕ → Option ℕ
+first_fault (Some first) place = Some first
+first_fault None place = Some place
+
+-- what is said of the place of the first current that is not allowed
+abbrev pub fault_said : Option ℕ → Result (Unit {0}) Verdict
+fault_said (Some place) = err 19 place
+fault_said None = Ok tt
 
 -- the object at a place; past the count there is none
 unfoldable pub object_at : Words → ℕ → Option Object
@@ -32,23 +38,28 @@ object_at l k = cond (ltb k l.count) (decode_of (get_or l.words k 0)) None
 unfoldable pub found_of : Profile → Slot → Option Object → Found
 found_of p s d = cond (of_object (fits s) d) (cond (of_object (current_refused p s) d) NotAllowed Allowed) Other
 
--- one place further: the first fault is kept
-unfoldable pub step_by : Walk → Found → Walk
-step_by w Other = lost
-step_by w Allowed = walk (w.at + 1) w.verdict
-step_by w NotAllowed = walk (w.at + 1) (cond (eqb w.verdict.number 0) (verdict 19 (w.at + 1)) w.verdict)
+-- one place further; where another object stands or none, there is no way on
+unfoldable pub step_by : Walk → Found → Option Walk
+step_by w Other = None
+step_by w Allowed = Some (walk (w.at + 1) w.fault)
+step_by w NotAllowed = Some (walk (w.at + 1) (first_fault w.fault (w.at + 1)))
 
-unfoldable pub step_of : Profile → Words → Slot → Walk → Walk
+unfoldable pub step_of : Profile → Words → Slot → Walk → Option Walk
 step_of p l s w = step_by w (found_of p s (object_at l w.at))
 
 -- a step that is taken or not
-abbrev pub step_if : Bool → Profile → Words → Slot → Walk → Walk
-step_if goes p l s w = cond goes (step_of p l s w) w
+abbrev pub step_if : Bool → Profile → Words → Slot → Walk → Option Walk
+step_if goes p l s w = cond goes (step_of p l s w) (Some w)
+
+-- a walk that is lost stays lost
+abbrev pub and_on : Option Walk → (Walk → Option Walk) → Option Walk
+and_on (Some w) f = f w
+and_on None f = None
 
 -- the first n slots of the port's full list
-unfoldable pub followed : Profile → Words → ℕ → Walk
-followed p l zero = walk 0 success
-followed p l (suc n) = step_of p l (get_or (slots p.max.0) n Nothing) (followed p l n)
+unfoldable pub followed : Profile → Words → ℕ → Option Walk
+followed p l zero = Some (walk 0 None)
+followed p l (suc n) = and_on (followed p l n) (step_of p l (get_or (slots p.max.0) n Nothing))
 
 -- ---- what following a list to its end says
 

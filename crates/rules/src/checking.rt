@@ -1,19 +1,17 @@
 // The rule check of a list against a profile.
-ghost use Rattle.std.specs.Prelude.{◌≡◌, not, ◌≤◌, ◌<◌, ltb, eqb, length};
-ghost use Rattle.std.specs.Bool.{beq};
-ghost use Rattle.verdicts.specs.Refusals.{verdict};
-ghost use Rattle.rules.specs.Profiles.{Within};
-ghost use Rattle.rules.specs.Tables.{Fixed, Avs, Prog, rails, fixed_slots, base_slots, slots, exceeds, holds};
-ghost use Rattle.rules.specs.Following.{object_at, step_by, found_of, step_if, followed};
+ghost use Rattle.std.specs.Prelude.{◌≡◌, ◌<◌, length};
+ghost use Rattle.verdicts.specs.Refusals.{passed_by};
+ghost use Rattle.rules.specs.Tables.{rails, fixed_slots, base_slots, slots};
+ghost use Rattle.rules.specs.Checking.{check_refusals};
+ghost use Rattle.rules.specs.Following.{object_at, step_by, step_if, followed, fault_said};
 ghost use Rattle.rules.specs.Promises.{Checks};
 
 use crate::Profile;
-use crate::currents::{between, fixed_allowed, prog_allowed};
-use crate::profiles::judge_profile;
-use crate::tables::{AVS_ABOVE, AVS_PAST_15_V_ABOVE, BOTTOM, RAILS, Rail, SUPPLIES, Supply};
+use crate::port::{Candidate, Port};
+use crate::rows::Row;
+use crate::tables::{AvsRow, RAILS, SUPPLIES};
 use lists::Words;
 use objects::Object;
-use steps::{Ma10, Mv100};
 use verdicts::Verdict;
 
 // What stands where a row's object has to stand: another object or none, or the right one, with a current that is allowed or not.
@@ -24,225 +22,128 @@ pub enum Found {
     NotAllowed,
 }
 
-// How far a list has been followed along the tables: the next place, and the first current on the way that is not allowed.
+// How far a list has been followed along the tables: the next place, and the place of the first word on the way whose current is not
+// allowed, counted from 1.
 #[derive(Clone, Copy)]
 pub struct Walk {
     pub at: u8,
-    pub verdict: Verdict,
+    pub fault: Option<u8>,
 }
 
-// No list has an eighth place: once another object stands where a row's object has to stand, a list is lost for good.
-const LOST: Walk = Walk {
-    at: 8,
-    verdict: Verdict {
-        number: verdicts::SUCCESS,
-        place: 0,
-    },
-};
-
-// The object at a place; past the count there is none.
-fn object_at(list: Words, at: u8) -> Option<Object>
-    requires { list.count ≤ 7 }
-    ensures { result ≡ object_at list at }
-{
-    if at < list.count {
-        let i = at as usize;
-        return objects::decode(list.words[i]);
-    }
-    None
-}
-
-// One place further. The first current that is not allowed is kept.
-fn step(walk: Walk, found: Found) -> Walk
-    requires { walk.at ≤ 8 }
-    ensures { result ≡ step_by walk found }
-{
-    let at = walk.at + 1;
-    let verdict = walk.verdict;
-    match found {
-        Found::Other => LOST,
-        Found::Allowed => Walk { at, verdict },
-        Found::NotAllowed => {
-            if verdict.number != verdicts::SUCCESS {
-                return Walk { at, verdict };
-            }
-            Walk {
+impl Walk {
+    // One place further. The first current that is not allowed is kept. Where another object stands there is no way on.
+    #[tactic(auto, unfolding(crate::specs::Following::step_by))]
+    fn step(self, found: Found) -> Option<Walk>
+        requires { self.at < 255 }
+        ensures { result ≡ step_by self found }
+    {
+        let at = self.at + 1;
+        match found {
+            Found::Other => None,
+            Found::Allowed => Some(Walk { at, ..self }),
+            Found::NotAllowed => Some(Walk {
                 at,
-                verdict: Verdict {
-                    number: verdicts::CURRENT_NOT_ALLOWED,
-                    place: at,
-                },
-            }
+                fault: self.fault.or(Some(at)),
+            }),
+        }
+    }
+
+    // What is said of a list that has been followed to its end.
+    fn judged(self) -> Result<(), Verdict>
+        ensures { result ≡ fault_said self.fault }
+    {
+        match self.fault {
+            Some(place) => Err(Verdict::at(verdicts::CURRENT_NOT_ALLOWED, place)),
+            None => Ok(()),
         }
     }
 }
 
-// ---- the fixed part
+impl Candidate {
+    // The object at a place; past the count there is none.
+    #[tactic(auto, unfolding(crate::specs::Following::object_at))]
+    fn object_at(&self, at: u8) -> Option<Object>
+        ensures { result ≡ object_at self.now.list at }
+    {
+        if at < self.list.count {
+            return objects::decode(self.list.words[at as usize]);
+        }
+        None
+    }
 
-fn find_rail(p: Profile, volts: u16, d: Option<Object>) -> Found
-    requires { Within p × (0 < volts) × (volts ≤ 20) }
-    ensures { result ≡ found_of p (Fixed volts) d }
-{
-    let Some(o) = d else {
-        return Found::Other;
-    };
-    let Object::Fixed {
-        volts: own,
-        current,
-        ..
-    } = o
-    else {
-        return Found::Other;
-    };
-    if own.0 != volts * 20 {
-        return Found::Other;
+    // One place further, where the port has the row's object.
+    #[tactic(auto, using(crate::proofs::Steps::step_is, crate::proofs::Steps::step_past, crate::proofs::Steps::before))]
+    fn follow_row<R: Row>(&self, row: R, walk: Walk) -> Option<Walk>
+        requires { R.real row }
+        ensures { result ≡ step_if (R.there self.now.port.profile.max.0 row) self.now.port.profile self.now.list (R.slot self.now.port.profile.max.0 row) walk }
+    {
+        if row.is_there(self.port.profile.max) {
+            let o = self.object_at(walk.at)?;
+            let found = row.find(self.port, o);
+            return walk.step(found);
+        }
+        Some(walk)
     }
-    if fixed_allowed(p, volts, current) {
-        return Found::Allowed;
+
+    fn follow_rails(&self) -> Option<Walk>
+        ensures { result ≡ followed self.now.port.profile self.now.list (length (fixed_slots self.now.port.profile.max.0 rails)) }
+    {
+        let mut walk = Walk { at: 0, fault: None };
+        for row in RAILS {
+            walk = self.follow_row(row, walk)?;
+        }
+        Some(walk)
     }
-    Found::NotAllowed
+
+    // What a list without programmable supplies has.
+    fn follow_base(&self) -> Option<Walk>
+        ensures { result ≡ followed self.now.port.profile self.now.list (length (base_slots self.now.port.profile.max.0)) }
+    {
+        let rails = self.follow_rails()?;
+        self.follow_row(AvsRow, rails)
+    }
+
+    fn follow_supplies(&self, base: Walk) -> Option<Walk>
+        requires { followed self.now.port.profile self.now.list (length (base_slots self.now.port.profile.max.0)) ≡ Some base }
+        ensures { result ≡ followed self.now.port.profile self.now.list (length (slots self.now.port.profile.max.0)) }
+    {
+        let mut walk = base;
+        for row in SUPPLIES {
+            walk = self.follow_row(row, walk)?;
+        }
+        Some(walk)
+    }
+    // The set of objects (18), then the currents (19).
+    fn judged(&self) -> Result<(), Verdict>
+        ensures { result ≡ passed_by (check_refusals self.now.port.profile self.now.list) }
+    {
+        let wrong_set = Verdict::placeless(verdicts::WRONG_SET);
+        let Some(base) = self.follow_base() else {
+            return Err(wrong_set);
+        };
+        if base.at == self.list.count {
+            return base.judged();
+        }
+        if self.port.profile.present < self.port.profile.max {
+            return Err(wrong_set);
+        }
+        let Some(full) = self.follow_supplies(base) else {
+            return Err(wrong_set);
+        };
+        if full.at == self.list.count {
+            return full.judged();
+        }
+        Err(wrong_set)
+    }
 }
 
-// One place further, where M exceeds the row.
-fn follow_rail(p: Profile, list: Words, row: Rail, walk: Walk) -> Walk
-    requires { Within p × (list.count ≤ 7) × (0 < row.volts) × (row.volts ≤ 20) × (walk.at ≤ 8) }
-    ensures { result ≡ step_if (exceeds p.max.0 row) p list (Fixed row.volts) walk }
+#[tactic(auto, using(crate::proofs::Checks::bad_profile))]
+fn checked(p: Profile, list: Words) -> Result<(), Verdict>
+    ensures { result ≡ passed_by (check_refusals p list) }
 {
-    if p.max.0 <= row.above.0 {
-        return walk;
-    }
-    let d = object_at(list, walk.at);
-    let found = find_rail(p, row.volts, d);
-    step(walk, found)
-}
-
-fn follow_rails(p: Profile, list: Words) -> Walk
-    requires { Within p × (list.count ≤ 7) }
-    ensures { result ≡ followed p list (length (fixed_slots p.max.0 rails)) }
-{
-    let mut walk = Walk {
-        at: 0,
-        verdict: Verdict {
-            number: verdicts::SUCCESS,
-            place: 0,
-        },
-    };
-    let mut i = 0;
-    while i < 4 {
-        let row = RAILS[i];
-        walk = follow_rail(p, list, row, walk);
-        i += 1;
-    }
-    walk
-}
-
-// ---- AVS
-
-// The second current is 0 for a port maximum of at most 90, and only then.
-fn ends_right(p: Profile, high: Ma10) -> bool
-    ensures { result ≡ beq (ltb 90 p.max.0) (not (eqb high.0 0)) }
-{
-    if AVS_PAST_15_V_ABOVE.0 < p.max.0 {
-        high.0 != 0
-    } else {
-        high.0 == 0
-    }
-}
-
-// Its currents are those of fixed objects, which 17 sees to.
-fn find_avs(p: Profile, d: Option<Object>) -> Found
-    ensures { result ≡ found_of p (Avs (ltb 90 p.max.0)) d }
-{
-    let Some(o) = d else {
-        return Found::Other;
-    };
-    let Object::Avs { high, .. } = o else {
-        return Found::Other;
-    };
-    if ends_right(p, high) {
-        return Found::Allowed;
-    }
-    Found::Other
-}
-
-fn follow_avs(p: Profile, list: Words, walk: Walk) -> Walk
-    requires { (list.count ≤ 7) × (walk.at ≤ 8) }
-    ensures { result ≡ step_if (ltb 54 p.max.0) p list (Avs (ltb 90 p.max.0)) walk }
-{
-    if p.max.0 <= AVS_ABOVE.0 {
-        return walk;
-    }
-    let d = object_at(list, walk.at);
-    let found = find_avs(p, d);
-    step(walk, found)
-}
-
-// ---- programmable supplies
-
-fn find_supply(p: Profile, volts: u16, top: Mv100, d: Option<Object>) -> Found
-    requires { Within p }
-    ensures { result ≡ found_of p (Prog volts top.0) d }
-{
-    let Some(o) = d else {
-        return Found::Other;
-    };
-    let Object::Pps {
-        max,
-        min,
-        current,
-        ..
-    } = o
-    else {
-        return Found::Other;
-    };
-    if max.0 != top.0 {
-        return Found::Other;
-    }
-    if min.0 != BOTTOM.0 {
-        return Found::Other;
-    }
-    if prog_allowed(p, volts, current) {
-        return Found::Allowed;
-    }
-    Found::NotAllowed
-}
-
-// One place further, where the row holds M.
-fn follow_supply(p: Profile, list: Words, row: Supply, walk: Walk) -> Walk
-    requires { Within p × (list.count ≤ 7) × (walk.at ≤ 8) }
-    ensures { result ≡ step_if (holds p.max.0 row) p list (Prog row.volts row.top.0) walk }
-{
-    if between(row.above, p.max, row.below) {
-        let d = object_at(list, walk.at);
-        let found = find_supply(p, row.volts, row.top, d);
-        return step(walk, found);
-    }
-    walk
-}
-
-fn follow_supplies(p: Profile, list: Words, from: Walk) -> Walk
-    requires { Within p × (list.count ≤ 7) × (from ≡ followed p list (length (base_slots p.max.0))) }
-    ensures { result ≡ followed p list (length (slots p.max.0)) }
-{
-    let mut walk = from;
-    let mut i = 0;
-    while i < 3 {
-        let row = SUPPLIES[i];
-        walk = follow_supply(p, list, row, walk);
-        i += 1;
-    }
-    walk
-}
-
-// ---- the check
-
-fn wrong_set() -> Verdict
-    ensures { result ≡ verdict 18 0 }
-{
-    Verdict {
-        number: verdicts::WRONG_SET,
-        place: 0,
-    }
+    let port = Port::try_from(p)?;
+    lists::shape(list).passed()?;
+    Candidate { port, list }.judged()
 }
 
 // Whether a list keeps to the power rules of a profile. Rounding, PPS wanted and flags have to be in range, and do not matter beyond
@@ -250,25 +151,5 @@ fn wrong_set() -> Verdict
 pub fn check(p: Profile, list: Words) -> Verdict
     ensures { Checks p list result }
 {
-    let profile = judge_profile(p);
-    if profile.number != verdicts::SUCCESS {
-        return profile;
-    }
-    let shape = lists::shape(list);
-    if shape.number != verdicts::SUCCESS {
-        return shape;
-    }
-    let rails = follow_rails(p, list);
-    let base = follow_avs(p, list, rails);
-    if base.at == list.count {
-        return base.verdict;
-    }
-    if p.present.0 < p.max.0 {
-        return wrong_set();
-    }
-    let full = follow_supplies(p, list, base);
-    if full.at == list.count {
-        return full.verdict;
-    }
-    wrong_set()
+    Verdict::from(checked(p, list))
 }

@@ -7,7 +7,9 @@ mod building;
 mod checking;
 mod currents;
 mod placing;
+mod port;
 mod profiles;
+mod rows;
 mod tables;
 
 pub use building::build;

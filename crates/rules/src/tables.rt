@@ -45,6 +45,10 @@ pub(crate) const ROW_15_V: usize = 2;
 // The row whose current is the second AVS current too.
 pub(crate) const ROW_20_V: usize = 3;
 
+// The row of the one AVS object, which every port with AVS has alike.
+#[derive(Clone, Copy)]
+pub(crate) struct AvsRow;
+
 // The port maximum that a port with AVS exceeds.
 pub(crate) const AVS_ABOVE: HalfWatts = HalfWatts(54);
 

@@ -3,7 +3,8 @@
 use mathlib.Core.Path.{sym, ◌∙◌, subst}
 use Prim.Native.Nat.{ℕ, ◌≤◌, ◌<◌}
 use Rattle.rules.specs.Building.{built_count}
-use Rattle.rules.proofs.TableWalk.{after_rails}
+use Rattle.rules.proofs.TableWalk.{after_rails, exceeded}
+use Rattle.rules.specs.Tables.{rails}
 use Rattle.rules.proofs.PutDown.{avs_anywhere}
 use Rattle.rules.proofs.Places.{rail_at, rails_in_base, avs_at, word_there, none_there, without_pps, base_counted}
 use Rattle.rules.proofs.placing.standing_at.Goals as goal
@@ -11,20 +12,23 @@ use Rattle.rules.proofs.placing.standing_at.Goals as goal
 pub returns-then-asked-rails : goal.returns-then-asked-rails
 returns-then-asked-rails c =
     let x = c.args in
-    let h : x.asked < after_rails x.p.max.0 = subst (λ (n : ℕ). x.asked < n) c.past_rails-rails.ensures c.if-asked-rails.true in
-    let st = rail_at x.p.max.0 x.asked c.requires.max h in
-    word_there x.p (built_count x.p) x.asked _ _ st (base_counted x.p x.asked (rails_in_base x.p.max.0 x.asked h)) c.rail_word.ensures
+    let h : x.asked < after_rails x.port.profile.max.0 = subst (λ (n : ℕ). x.asked < n) (c.past_rails-rails.ensures ∙ exceeded x.port.profile.max.0 rails) c.if-asked-rails.true in
+    let st = rail_at x.port.profile.max.0 x.asked x.port.within.max h in
+    word_there x.port.profile (built_count x.port.profile) x.asked _ _ st (base_counted x.port.profile x.asked (rails_in_base x.port.profile.max.0 x.asked h)) c.word.ensures
 
 pub returns-then-asked-base : goal.returns-then-asked-base
 returns-then-asked-base c =
     let x = c.args in
-    let low = subst (λ (n : ℕ). n ≤ x.asked) c.past_rails-rails.ensures c.if-asked-rails.false in
+    let low = subst (λ (n : ℕ). n ≤ x.asked) (c.past_rails-rails.ensures ∙ exceeded x.port.profile.max.0 rails) c.if-asked-rails.false in
     let high = subst (λ (n : ℕ). x.asked < n) c.past_avs-base.ensures c.if-asked-base.true in
-    word_there x.p (built_count x.p) x.asked _ _ (avs_at x.p.max.0 x.asked low high) (base_counted x.p x.asked high)
-    (c.avs_word.ensures ∙ avs_anywhere x.p _ _)
+    word_there x.port.profile (built_count x.port.profile) x.asked _ _ (avs_at x.port.profile.max.0 x.asked low high) (base_counted x.port.profile x.asked high)
+    (c.word-then-asked-base.ensures ∙ avs_anywhere x.port.profile _ _)
 
-pub returns-then-p-ne1 : goal.returns-then-p-ne1
-returns-then-p-ne1 c =
+pub returns-then-port-ne1 : goal.returns-then-port-ne1
+returns-then-port-ne1 c =
     let x = c.args in
     let low = subst (λ (k : ℕ). k ≤ x.asked) c.past_avs-base.ensures c.if-asked-base.false in
-    none_there x.p (built_count x.p) x.asked (subst (λ (k : ℕ). k ≤ x.asked) (sym (without_pps x.p c.if-p-ne1.true)) low)
+    none_there x.port.profile (built_count x.port.profile) x.asked (subst (λ (k : ℕ). k ≤ x.asked) (sym (without_pps x.port.profile c.if-port-ne1.true)) low)
+
+pub past_avs-base-requires : goal.past_avs-base-requires
+past_avs-base-requires c = (c.args.port.within.max, c.past_rails-rails.ensures ∙ exceeded c.args.port.profile.max.0 rails)

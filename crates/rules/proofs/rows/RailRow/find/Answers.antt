@@ -1,0 +1,11 @@
+-- `rules::rows::RailRow::find` meets its contract: an object of another kind is none of the fixed part.
+-- Assumes nothing.
+use mathlib.Core.Path.{sym}
+use Rattle.rules.specs.Sets.{fits}
+use Rattle.rules.proofs.OtherKinds.{fixed_only}
+use Rattle.rules.proofs.Steps.{found_other}
+use Rattle.rules.proofs.rows.RailRow.find.Goals as goal
+
+pub returns-in_default : goal.returns-in_default
+unfolding fits
+returns-in_default c = sym (found_other _ _ _ (fixed_only _ _ c.in_default.not-Fixed))
