@@ -17,7 +17,7 @@ pub use reading::{read_message, take_message};
 use verdicts::{PASSED, Verdict};
 pub use writing::write_message;
 
-// The type of Source_Capabilities, whose words are a list.
+// The type of Source_Capabilities, whose words are a list. A number, and no enum: C hands a header in, with any type in it.
 pub const SOURCE_CAPABILITIES: u8 = 1;
 
 // The type of a Request, whose one word is a request.
@@ -46,7 +46,8 @@ pub struct Header {
     pub message_type: u8,
 }
 
-// A header and seven words. As many of them count as the header says; what lies past that is not read.
+// A header and seven words. As many of them count as the header says; what lies past that is not read. No slice and no Vec: C hands this
+// struct over, and there is no heap.
 #[repr(C)]
 #[derive(Clone, Copy)]
 pub struct Message {
@@ -56,7 +57,8 @@ pub struct Message {
     pub words: [u32; 7],
 }
 
-// What reading a message gives: on a refusal the message is all zero.
+// What reading a message gives: on a refusal the message is all zero. No Result: C takes this struct, and `ReadMessageRefusals` says what stands
+// beside a refusal.
 #[repr(C)]
 #[derive(Clone, Copy)]
 pub struct MessageReading {
@@ -84,7 +86,8 @@ impl From<Result<Message, Verdict>> for MessageReading {
     }
 }
 
-// What writing a message gives: on a refusal the length is 0, and no byte was written.
+// What writing a message gives: on a refusal the length is 0, and no byte was written. No Result: C takes this struct, and
+// `WriteMessageRefusals` says what stands beside a refusal.
 #[repr(C)]
 #[derive(Clone, Copy)]
 pub struct Written {

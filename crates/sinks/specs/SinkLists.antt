@@ -1,15 +1,16 @@
 -- Reading and writing the list of a sink (STATEMENT, "Shape of a sink list": "Reading and writing are as on the source side, with this
 -- shape").
 -- Assumes nothing.
-use Rattle.std.specs.Prelude.{List, ◌∷◌, ℕ, get_or, replicate, Option}
+use Rattle.std.specs.Prelude.{List, ℕ, get_or, replicate, Option, Result}
 use Rattle.verdicts.specs.declared.Verdict.{Verdict}
-use Rattle.verdicts.specs.Refusals.{Refusal, refusal, each_place, first_of, verdict, success}
+use Rattle.verdicts.specs.Refusals.{Refusal, first_of, verdict, success}
 use Rattle.objects.specs.declared.Side.TheVariants.{Sink}
 use Rattle.lists.specs.declared.Words.{Words}
 use Rattle.lists.specs.declared.Listing.{Listing}
-use Rattle.lists.specs.Shape.{bad_count, refusals_for, shape_for}
+use Rattle.lists.specs.Shape.{refusals_for, shape_for}
 use Rattle.lists.specs.Seven.{seven_to}
-use Rattle.lists.specs.Writing.{wide_rows, words_from, writing_refusals, written_from}
+use Rattle.lists.specs.Writing.{words_from, writing_refusals, written_from}
+use Rattle.lists.specs.Making.{words_made}
 use Rattle.sinks.specs.declared.SinkObject.{SinkObject}
 use Rattle.sinks.specs.declared.SinkPlace.{SinkPlace}
 use Rattle.sinks.specs.declared.SinkObjects.{SinkObjects}
@@ -67,6 +68,6 @@ sink_write_refusals o = writing_refusals Sink (sink_encoded_at o.places) o.count
 abbrev pub sink_write_of : SinkObjects → Listing
 sink_write_of o = written_from Sink (sink_encoded_at o.places) o.count
 
--- "10; 7 at the first such object": what is refused before the shape of the words made is looked at
-abbrev pub sink_making_refusals : SinkObjects → List Refusal
-sink_making_refusals o = refusal (bad_count o.count) 10 0 ∷ each_place (wide_rows (sink_encoded_at o.places)) o.count
+-- the words made, before their shape is looked at, for `?`
+abbrev pub sink_made_of : SinkObjects → Result Words Verdict
+sink_made_of o = words_made (sink_encoded_at o.places) o.count

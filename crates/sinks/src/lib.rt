@@ -61,7 +61,8 @@ pub struct SinkPlace {
     pub object: SinkObject,
 }
 
-// Seven places and how many of them count. What lies past the count is returned as zero and not read on the way in.
+// Seven places and how many of them count. What lies past the count is returned as zero and not read on the way in. No Vec: there is no heap.
+// No struct that it shares with `lists::Objects`: an array of a type parameter is none of Rattle's forms.
 #[derive(Clone, Copy)]
 pub struct SinkObjects {
     // The objects, in order.
@@ -70,7 +71,7 @@ pub struct SinkObjects {
     pub count: u8,
 }
 
-// What reading gives: on a refusal the list is empty and all zero.
+// What reading gives: on a refusal the list is empty and all zero. No Result: `SinkReadRefusals` says what stands beside a refusal.
 #[derive(Clone, Copy)]
 pub struct SinkReading {
     // The first refusal that applies, or success.

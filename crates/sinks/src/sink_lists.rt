@@ -1,7 +1,6 @@
 // The list of a sink: its shape, reading and writing (docs/STATEMENT.md, "Shape of a sink list").
-ghost use Rattle.std.specs.Prelude.{◌≡◌, ◌≤◌, Ok};
-ghost use Rattle.verdicts.specs.Refusals.{first_of, err};
-ghost use Rattle.sinks.specs.SinkLists.{sink_place, sink_objects_to, sink_words_of, sink_making_refusals};
+ghost use Rattle.std.specs.Prelude.{◌≡◌, ◌≤◌};
+ghost use Rattle.sinks.specs.SinkLists.{sink_place, sink_objects_to, sink_made_of};
 ghost use Rattle.sinks.specs.Promises.{SinkShapes, SinkReads, SinkWrites};
 
 use crate::sink_words::{sink_decode, sink_encode};
@@ -52,7 +51,7 @@ pub fn sink_read(list: Words) -> SinkReading
 
 // The word of each sink object, until one has a field too wide.
 fn encode_places(list: SinkObjects) -> Result<Words, Verdict>
-    ensures { result ≡ first_of err (sink_making_refusals list) (Ok (sink_words_of list)) }
+    ensures { result ≡ sink_made_of list }
 {
     let count = list.count;
     if lists::bad_count(count) {

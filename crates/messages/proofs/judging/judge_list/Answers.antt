@@ -1,8 +1,7 @@
 -- `messages::judging::judge_list` meets its contract: the shape check's, or that there is no list.
 -- Assumes nothing.
 use mathlib.Core.Path.{ap, sym, ◌∙◌}
-use mathlib.Core.List.{List}
-use Rattle.verdicts.specs.Refusals.{Refusal, first_of, passed_by, passed_of}
+use Rattle.verdicts.specs.Refusals.{first_of, passed_by, passed_of}
 use Rattle.verdicts.proofs.First.{telling_numbered}
 use Rattle.verdicts.proofs.Results.{passed_first}
 use Rattle.objects.specs.declared.Side.TheVariants.{Source}

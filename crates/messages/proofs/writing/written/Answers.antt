@@ -1,8 +1,6 @@
 -- `messages::writing::written` meets its contract: what `length_in` refuses leaves the buffer as it was, and else the message fits it.
 -- Assumes nothing.
-use mathlib.Core.Path.{◌≡◌, refl, sym, ◌∙◌}
-use mathlib.Core.List.{List}
-use Prim.Native.Nat.{ℕ}
+use mathlib.Core.Path.{sym, ◌∙◌}
 use lib.ListN.{length}
 use borrow.Author.Tests.{ltb-false, not-false}
 use Rattle.std.proofs.lemmas.Result.{err_from_is_err_and}
