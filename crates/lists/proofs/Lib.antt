@@ -1,3 +1,4 @@
+pub mod Counted
 pub mod Orders
 pub mod Judging
 pub mod Telling
@@ -9,4 +10,5 @@ pub mod Shapes
 pub mod Readings
 pub mod Writings
 pub mod Unread
+pub mod Sliced
 pub mod RoundTrips

@@ -1,8 +1,8 @@
 -- At most one AVS word: the ranks do not fall from word to word, and an AVS object follows lower ranks alone.
 -- Assumes nothing.
-use Rattle.std.specs.Prelude.{Option, Some, None}
+use Rattle.std.specs.Prelude.{Result, Ok, Err, Option, Some, None}
 use mathlib.Core.Path.{◌≡◌, refl, sym, ap, ap₂, ◌∙◌}
-use mathlib.Core.Bool.{Bool, true, false, not, cond, ◌&&◌, ◌||◌, and-eq-true_iff}
+use mathlib.Core.Bool.{Bool, true, false, not, ◌&&◌, ◌||◌, and-eq-true_iff}
 use mathlib.Core.List.{List, []}
 use mathlib.Core.Logic.{⊎_elim}
 use Prim.Native.Nat.{ℕ, ◌+◌, ◌-◌, ◌≤◌, ◌<◌}
@@ -13,8 +13,8 @@ use lib.ListN.{get_or}
 use borrow.Author.Tests.{ltb-true, eqb-true, eqb-false, ne_eqb, not-false}
 use Rattle.steps.specs.declared.Ma10.{Ma10}
 use Rattle.verdicts.specs.declared.Verdict.{Verdict}
-use Rattle.verdicts.specs.Refusals.{each_place, first_of, verdict, success, verdict_of, NoneApply}
-use Rattle.verdicts.proofs.First.{hit, all_missed, none_at, none_all, decided, none_applied, numbered_places}
+use Rattle.verdicts.specs.Refusals.{each_place, verdict, err, passed_by, NoneApply}
+use Rattle.verdicts.proofs.First.{hit, all_missed, none_all, decided}
 use Rattle.objects.specs.declared.Side.{Side}
 use Rattle.objects.specs.declared.Side.TheVariants.{Source}
 use Rattle.objects.specs.declared.Object.{Object}
@@ -22,11 +22,13 @@ use Rattle.objects.specs.declared.Object.TheVariants.{Fixed, Battery, Variable, 
 use Rattle.objects.specs.Asking.{of_object, of_avs}
 use Rattle.objects.specs.Decode.{decode_of, decode_for}
 use Rattle.lists.specs.declared.object_rules.Standing.{Standing}
+use Rattle.lists.specs.declared.object_rules.Standing.TheVariants as standing
 use Rattle.lists.specs.ObjectRules.{rank_of, key_of, keys_may_follow, may_follow}
 use Rattle.lists.specs.Shape.{out_of_order, word_rows, avs_matches, avs_differs, avs_rows}
 use Rattle.lists.specs.Reading.{object_of}
+use Rattle.lists.specs.Judging.{standing_of}
 use Rattle.lists.specs.Scanning.{OnlyAvs}
-use Rattle.lists.proofs.Orders.{rank_in}
+use Rattle.lists.proofs.Orders.{rank_at, rank_in}
 use Rattle.lists.proofs.Judging.{Before}
 
 -- ---- one object after another
@@ -52,7 +54,20 @@ rises before o e = go (ltb (rank_of before) (rank_of o)) refl e where
       let l = eqb-true (rank_of before) (rank_of o) both.0 in
       (omega (arith, l), λ r. absurd (no_second o (key_of before) (key_of o) r both.1))
 
+-- AVS alone has its rank
+rank_3 : (s : Standing) → rank_at s ≡ 3 → s ≡ standing.Avs
+rank_3 (standing.Fixed v) r = absurd (omega (arith, r))
+rank_3 (standing.Battery m) r = absurd (omega (arith, r))
+rank_3 (standing.Variable m) r = absurd (omega (arith, r))
+rank_3 standing.Avs r = refl
+rank_3 (standing.Pps x) r = absurd (omega (arith, r))
+
 -- ---- the words so far
+
+-- the rank of what came before; of nothing the lowest
+abbrev pub earlier_rank : Option Standing → ℕ
+earlier_rank (Some s) = rank_at s
+earlier_rank None = 0
 
 -- no AVS word but the one at this place, and none at all while the ranks are lower
 pub record Alone (side : Side) (ws : List ℕ) (i earlier place : ℕ) : Type 0 where
@@ -60,10 +75,13 @@ pub record Alone (side : Side) (ws : List ℕ) (i earlier place : ℕ) : Type 0 
   pub lower : earlier < 3 → place ≡ 0
 
 pub none_seen : (side : Side) (ws : List ℕ) → Alone side ws 0 0 0
-none_seen side ws = record { only = record { within = omega arith; others = λ k h f r. omega arith }; lower = λ h. refl }
+none_seen side ws = record {
+  only = record { short = omega arith; within = omega arith; others = λ k h f r. omega arith };
+  lower = λ h. refl;
+}
 
-module _ (side : Side) (ws : List ℕ) (i place : ℕ) (s : Standing) (a : Alone side ws i s.rank place) (b : Before side ws i s)
-    (x : NoneApply (word_rows side ws i)) (o : Object) (d : decode_for side (get_or ws i 0) ≡ Some o) where
+module _ (side : Side) (ws : List ℕ) (i place : ℕ) (s : Option Standing) (a : Alone side ws i (earlier_rank s) place) (b : Before side ws i s)
+    (below : i < 7) (x : NoneApply (word_rows side ws i)) (o : Object) (d : decode_for side (get_or ws i 0) ≡ Some o) where
   -- past the first word, the ranks do not fall
   follows : 0 < i → may_follow b.object o ≡ true
   follows h =
@@ -72,37 +90,39 @@ module _ (side : Side) (ws : List ℕ) (i place : ℕ) (s : Standing) (a : Alone
       ∙ ap₂ (out_of_order false) (b.decoded h) d)
       ∙ x.1.1.1.1.0)
 
-  none_before : (0 < i → s.rank < 3) → place ≡ 0
+  rank_before : 0 < i → earlier_rank s ≡ rank_of b.object
+  rank_before h = ap earlier_rank (b.stands h) ∙ sym (rank_in b.object)
+
+  none_before : (0 < i → earlier_rank s < 3) → place ≡ 0
   none_before f = ⊎_elim (λ e. omega (arith, a.only.within, e)) (λ l. a.lower (f l)) (let h : 0 ≤ i = omega arith in eq-or-lt_of_le h)
 
-  pub one_more : Alone side ws (i + 1) (rank_of o) (cond (eqb (rank_of o) 3) (i + 1) place)
-  one_more = go (eqb (rank_of o) 3) refl where
-    go : (t : Bool) → eqb (rank_of o) 3 ≡ t → Alone side ws (i + 1) (rank_of o) (cond t (i + 1) place)
-    go true q =
-        let r = eqb-true (rank_of o) 3 q in
-        let z = none_before (λ h. omega (arith, rank_in b.object b.stands, (rises b.object o (follows h)).1 r)) in record {
-          only = record { within = omega arith; others = λ k h f. a.only.others k (omega arith) (λ e. omega (arith, e, z)) };
-          lower = λ h. absurd (omega (arith, r, h));
-        }
-    go false q = record {
-      only = record {
-        within = omega (arith, a.only.within);
-        others = λ k h f r. ⊎_elim
-            (λ e. eqb-false (rank_of o) 3 q (sym (ap (λ (y : Option Object). rank_of (object_of y)) (ap (λ (j : ℕ). decode_for side (get_or ws j 0)) e ∙ d)) ∙ r))
-            (λ l. a.only.others k l f r) (let l : k ≤ i = omega arith in eq-or-lt_of_le l);
-      };
-      lower = λ h. none_before (λ l. omega (arith, h, rank_in b.object b.stands, (rises b.object o (follows l)).0));
-    }
+  module _ {t : Standing} (e : t ≡ standing_of o) where
+    rank_now : rank_of o ≡ rank_at t
+    rank_now = rank_in o ∙ ap rank_at (sym e)
 
--- a word that is refused is not passed
-pub refused_number : (side : Side) (ws : List ℕ) (n i : ℕ) (v : Verdict) → i < n → v ≡ verdict_of (each_place (word_rows side ws) n)
-    → ((y : Verdict) → first_of verdict (word_rows side ws i) y ≡ v) → v.number ≡ 0 → ⊥
-refused_number side ws n i v h e f z =
-    let clear = none_at (word_rows side ws) n i
-    (none_applied (each_place (word_rows side ws) n) (numbered_places (word_rows side ws) (λ k. refl) n) (sym (ap (λ (u : Verdict). u.number) e) ∙ z)) h in
-    let one : verdict 1 0 ≡ v = sym (all_missed verdict (verdict 1 0) (word_rows side ws i) clear) ∙ f (verdict 1 0) in
-    let q : ◌≡◌ {A = ℕ} 1 0 = ap (λ (u : Verdict). u.number) one ∙ z in
-    omega (arith, q)
+    pub one_avs : t ≡ standing.Avs → Alone side ws (i + 1) (rank_at t) (i + 1)
+    one_avs q =
+        let r : rank_of o ≡ 3 = rank_now ∙ ap rank_at q in
+        let z = none_before (λ h. omega (arith, rank_before h, (rises b.object o (follows h)).1 r)) in record {
+          only = record {
+            short = omega arith;
+            within = omega arith;
+            others = λ k h f. a.only.others k (omega arith) (λ u. omega (arith, u, z));
+          };
+          lower = λ h. absurd (omega (arith, ap rank_at q, h));
+        }
+
+    pub one_other : (t ≡ standing.Avs → ⊥) → Alone side ws (i + 1) (rank_at t) place
+    one_other f = record {
+      only = record {
+        short = omega arith;
+        within = omega (arith, a.only.within);
+        others = λ k h g r. ⊎_elim
+            (λ u. f (rank_3 t (sym rank_now ∙ sym (ap (λ (y : Option Object). rank_of (object_of y)) (ap (λ (j : ℕ). decode_for side (get_or ws j 0)) u ∙ d)) ∙ r)))
+            (λ l. a.only.others k l g r) (let l : k ≤ i = omega arith in eq-or-lt_of_le l);
+      };
+      lower = λ h. none_before (λ l. omega (arith, h, rank_now, rank_before l, (rises b.object o (follows l)).0));
+    }
 
 -- ---- what is no AVS word has no row of 17
 
@@ -119,22 +139,22 @@ module _ (ws : List ℕ) (n place : ℕ) (o : OnlyAvs Source ws n place) where
   unfolding avs_differs
   elsewhere k h f = (not_ranked (λ low high. not (avs_matches ws n low high)) (decode_of (get_or ws k 0)) (o.others k h f), tt)
 
-  pub no_avs_word : place < 1 → verdict_of (each_place (avs_rows ws n) n) ≡ success
-  no_avs_word l = all_missed verdict success _ (none_all (avs_rows ws n) n (λ k h. elsewhere k h (λ e. omega arith)))
+pub no_avs_word : (ws : List ℕ) (n : ℕ) → OnlyAvs Source ws n 0 → Ok tt ≡ passed_by (each_place (avs_rows ws n) n)
+no_avs_word ws n o = sym (all_missed err (Ok tt) _ (none_all (avs_rows ws n) n (λ k h. elsewhere ws n 0 o k h (λ e. omega (arith, e)))))
 
-  pub avs_word_differs : 1 ≤ place → of_object (avs_differs ws n) (decode_of (get_or ws (place - 1) 0)) ≡ true
-      → verdict_of (each_place (avs_rows ws n) n) ≡ verdict 17 place
-  avs_word_differs l e =
-      let z : place - 1 + 1 ≡ place = omega arith in
-      decided (avs_rows ws n) verdict (place - 1) n (verdict 17 place) (omega (arith, o.within))
-      (none_all (avs_rows ws n) (place - 1) (λ k h. elsewhere k (omega (arith, o.within)) (λ q. omega arith)))
-      (λ (x : Verdict). hit verdict x 17 (place - 1 + 1) [] e ∙ ap (verdict 17) z) success
+module _ (ws : List ℕ) (n i : ℕ) (o : OnlyAvs Source ws n (i + 1)) where
+  pub avs_word_differs : of_object (avs_differs ws n) (decode_of (get_or ws i 0)) ≡ true
+      → Err (verdict 17 (i + 1)) ≡ passed_by (each_place (avs_rows ws n) n)
+  avs_word_differs e =
+      sym (decided (avs_rows ws n) err i n (Err (verdict 17 (i + 1))) (omega (arith, o.within))
+      (none_all (avs_rows ws n) i (λ k h. elsewhere ws n (i + 1) o k (omega (arith, o.within)) (λ q. omega (arith, q))))
+      (λ (x : Result (Unit {0}) Verdict). hit err x 17 (i + 1) [] e) (Ok tt))
 
-  pub avs_word_matches : 1 ≤ place → of_object (avs_differs ws n) (decode_of (get_or ws (place - 1) 0)) ≡ false
-      → verdict_of (each_place (avs_rows ws n) n) ≡ success
-  avs_word_matches l f = all_missed verdict success _ (none_all (avs_rows ws n) n (λ k h. go k h (eqb (k + 1) place) refl)) where
-    go : (k : ℕ) → k < n → (b : Bool) → eqb (k + 1) place ≡ b → NoneApply (avs_rows ws n k)
+  pub avs_word_matches : of_object (avs_differs ws n) (decode_of (get_or ws i 0)) ≡ false
+      → Ok tt ≡ passed_by (each_place (avs_rows ws n) n)
+  avs_word_matches f = sym (all_missed err (Ok tt) _ (none_all (avs_rows ws n) n (λ k h. go k h (eqb (k + 1) (i + 1)) refl))) where
+    go : (k : ℕ) → k < n → (b : Bool) → eqb (k + 1) (i + 1) ≡ b → NoneApply (avs_rows ws n k)
     go k h true q =
-        let e : k ≡ place - 1 = omega (arith, eqb-true (k + 1) place q) in
+        let e : k ≡ i = omega (arith, eqb-true (k + 1) (i + 1) q) in
         (ap (λ (j : ℕ). of_object (avs_differs ws n) (decode_of (get_or ws j 0))) e ∙ f, tt)
-    go k h false q = elsewhere k h (eqb-false (k + 1) place q)
+    go k h false q = elsewhere ws n (i + 1) o k h (eqb-false (k + 1) (i + 1) q)

@@ -45,13 +45,15 @@ module _ (side : Side) (l : Words) where
   unfolding shape_for
   miscounted e = hit verdict success 10 0 _ e
 
-  pub misbegun : bad_count l.count ≡ false → is_fixed_5_V (get_or l.words 0 0) ≡ false → shape_for side l ≡ verdict 11 1
-  unfolding shape_for
-  misbegun e f = miss verdict success 10 0 _ e ∙ hit verdict success 11 1 _ (ap not f)
+  -- past the count and the first word, the words decide and then the AVS words
+  module _ {A : Type 0} (refused : ℕ → ℕ → A) (answer : A) (e : bad_count l.count ≡ false) where
+    pub misbegun : is_fixed_5_V (get_or l.words 0 0) ≡ false → first_of refused (refusals_for side l) answer ≡ refused 11 1
+    misbegun f = miss refused answer 10 0 _ e ∙ hit refused answer 11 1 _ (ap not f)
 
-  pub begun : bad_count l.count ≡ false → is_fixed_5_V (get_or l.words 0 0) ≡ true → shape_for side l ≡ first_of verdict words_part (verdict_of (agreement_rows side l))
-  unfolding shape_for
-  begun e f = miss verdict success 10 0 _ e ∙ miss verdict success 11 1 _ (ap not f) ∙ onward verdict success words_part (agreement_rows side l)
+    pub begun : is_fixed_5_V (get_or l.words 0 0) ≡ true
+        → first_of refused (refusals_for side l) answer ≡ first_of refused words_part (first_of refused (agreement_rows side l) answer)
+    begun f =
+        miss refused answer 10 0 _ e ∙ miss refused answer 11 1 _ (ap not f) ∙ onward refused answer words_part (agreement_rows side l)
 
   -- ---- every row has a number
 

@@ -41,7 +41,7 @@ pub recounted : {A : Type 0} (f : Words → A) (l m : Words) → AgreeWords l m 
 recounted f l m a = ap (λ (n : ℕ). f (counting m.words n)) a.count
 
 module _ (side : Side) (ws vs : List ℕ) (n : ℕ) (e : (k : ℕ) → k < n → get_or ws k 0 ≡ get_or vs k 0) where
-  same_word_rows : (k : ℕ) → k < n → word_rows side ws k ≡ word_rows side vs k
+  pub same_word_rows : (k : ℕ) → k < n → word_rows side ws k ≡ word_rows side vs k
   same_word_rows k h =
       ap₂ (λ (b w : ℕ). word_refusals side (eqb k 0) (k + 1) (decode_for side b) w) (e (k - 1) (omega arith)) (e k h)
 
@@ -69,7 +69,7 @@ module _ (ws vs : List ℕ) (n : ℕ) (e : (k : ℕ) → k < n → get_or ws k 0
       ap (λ (b : Bool). refusal b 17 (k + 1) ∷ [])
       (same_differs (decode_of (get_or ws k 0)) ∙ ap (λ (w : ℕ). of_object (avs_differs vs n) (decode_of w)) (e k h))
 
-  same_agreement : (side : Side) → agreement_rows side (counting ws n) ≡ agreement_rows side (counting vs n)
+  pub same_agreement : (side : Side) → agreement_rows side (counting ws n) ≡ agreement_rows side (counting vs n)
   same_agreement Source = same_places (avs_rows ws n) (avs_rows vs n) n same_avs_rows
   same_agreement Sink = refl
 

@@ -1,26 +1,26 @@
 -- The cases of writing, by the side and by what each object is written as.
 -- Assumes nothing.
-use Rattle.std.specs.Prelude.{Option, Some, None}
+use Rattle.std.specs.Prelude.{Result, Ok, Err, Option, Some, None}
 use mathlib.Core.Path.{◌≡◌, refl, sym, ap, ◌∙◌, subst}
 use mathlib.Core.Bool.{true, false}
 use mathlib.Core.List.{List, [], ◌∷◌}
 use Prim.Native.Nat.{ℕ, ◌+◌, ◌<◌}
 use lib.Dec.{eqb}
-use borrow.Author.Tests.{ne_eqb}
+use borrow.Author.Tests.{eq-eqb, ne_eqb}
 use lib.ListN.{set, replicate}
 use Rattle.verdicts.specs.declared.Verdict.{Verdict}
-use Rattle.verdicts.specs.Refusals.{Refusal, refusal, each_place, first_of, success, verdict_of, NoneApply}
+use Rattle.verdicts.specs.Refusals.{Refusal, refusal, each_place, first_of, err, verdict, success, verdict_of, NoneApply}
 use Rattle.verdicts.proofs.First.{hit, miss, onward, onto, all_missed, refused_so, none_yet, none_more, decided, none_applied, passes, numbered, number_not_0, numbered_rest, numbered_append, numbered_places}
 use Rattle.objects.specs.declared.Side.{Side}
 use Rattle.objects.specs.Encode.{encoded_number}
 use Rattle.lists.specs.declared.Words.{Words}
 use Rattle.lists.specs.declared.Listing.{Listing}
-use Rattle.lists.specs.Shape.{bad_count, refusals_for, shape_for}
+use Rattle.lists.specs.Shape.{bad_count, refusals_for}
 use Rattle.lists.specs.Seven.{seven_to}
-use Rattle.lists.specs.Writing.{wide_rows, word_in, no_words, words_from, writing_refusals, write_refused, written_from, listed_of, finished_of}
-use Rattle.lists.specs.Making.{made_from}
+use Rattle.lists.specs.Writing.{wide_rows, word_in, no_words, words_from, writing_refusals, write_refused, listing_told, written_from, listed_of, finished_of}
+use Rattle.lists.specs.Making.{making_rows, made_from, words_made, listed_as}
 use Rattle.lists.proofs.Sevens.{none_filled, one_filled}
-use Rattle.lists.proofs.Shapes.{shape_numbered, as_shape_refused, as_shape_passes}
+use Rattle.lists.proofs.Shapes.{shape_numbered}
 
 abbrev pub written_as : (ℕ → Option ℕ) → ℕ → Listing
 written_as made n = record { verdict = success; list = words_from made n }
@@ -28,15 +28,20 @@ written_as made n = record { verdict = success; list = words_from made n }
 -- ---- the words made, one after the other
 
 module _ (made : ℕ → Option ℕ) (n : ℕ) where
-  abbrev pub made_rows : List Refusal
-  made_rows = refusal (bad_count n) 10 0 ∷ each_place (wide_rows made) n
-
-  pub made_numbered : numbered made_rows ≡ true
+  pub made_numbered : numbered (making_rows made n) ≡ true
   made_numbered = numbered_places (wide_rows made) (λ k. refl) n
 
+  -- the listing of the result
+  pub made_told : listing_told (words_made made n) ≡ made_from made n
+  unfolding words_made made_from
+  made_told = onto listing_told err (making_rows made n) (Ok (words_from made n))
+
+  pub miscounted_words : bad_count n ≡ true → Err (verdict 10 0) ≡ words_made made n
+  unfolding words_made
+  miscounted_words e = sym (hit err _ 10 0 _ e)
+
   pub not_made : bad_count n ≡ true → write_refused 10 0 ≡ made_from made n
-  unfolding made_from
-  not_made e = sym (hit write_refused _ 10 0 _ e)
+  not_made e = ap listing_told (miscounted_words e) ∙ made_told
 
 module _ (made : ℕ → Option ℕ) where
   -- no object before place i + 1 is too wide, and these are the words so far
@@ -56,32 +61,42 @@ module _ (made : ℕ → Option ℕ) where
         ∙ one_filled (λ (k : ℕ). word_in (made k)) 0 i h;
   }
 
+  pub wide_word : (i n : ℕ) (ws : List ℕ) → bad_count n ≡ false → i < n → MadeTo i ws → made i ≡ None → Err (verdict 7 (i + 1)) ≡ words_made made n
+  unfolding words_made
+  wide_word i n ws b h m e =
+      sym (miss err _ 10 0 _ b ∙ decided (wide_rows made) err i n _ h m.fit
+      (λ (x : Result Words Verdict). hit err x 7 (i + 1) [] (ap (λ (y : Option ℕ). eqb (encoded_number y) 7) e)) _)
+
   pub one_wide : (i n : ℕ) (ws : List ℕ) → bad_count n ≡ false → i < n → MadeTo i ws → made i ≡ None → write_refused 7 (i + 1) ≡ made_from made n
-  unfolding made_from
-  one_wide i n ws b h m e =
-      sym (miss write_refused _ 10 0 _ b ∙ decided (wide_rows made) write_refused i n _ h m.fit
-      (λ (x : Listing). hit write_refused x 7 (i + 1) [] (ap (λ (y : Option ℕ). eqb (encoded_number y) 7) e)) _)
+  one_wide i n ws b h m e = ap listing_told (wide_word i n ws b h m e) ∙ made_told made n
+
+  pub all_words : (i n : ℕ) (ws : List ℕ) → bad_count n ≡ false → i ≡ n → MadeTo i ws → Ok (record { words = ws; count = n }) ≡ words_made made n
+  unfolding words_made
+  all_words i n ws b e m =
+      ap counted (m.words ∙ ap (seven_to (λ (k : ℕ). word_in (made k)) 0) e)
+      ∙ sym (miss err _ 10 0 _ b ∙ all_missed err _ _ (subst (λ (j : ℕ). NoneApply (each_place (wide_rows made) j)) e m.fit))
+    where
+      counted : List ℕ → Result Words Verdict
+      counted vs = Ok (record { words = vs; count = n })
 
   pub all_made : (i n : ℕ) (ws : List ℕ) → bad_count n ≡ false → i ≡ n → MadeTo i ws
       → record { verdict = success; list = record { words = ws; count = n } } ≡ made_from made n
-  unfolding made_from
-  all_made i n ws b e m =
-      ap listing (m.words ∙ ap (seven_to (λ (k : ℕ). word_in (made k)) 0) e)
-      ∙ sym (miss write_refused _ 10 0 _ b ∙ all_missed write_refused _ _ (subst (λ (j : ℕ). NoneApply (each_place (wide_rows made) j)) e m.fit))
-    where
-      listing : List ℕ → Listing
-      listing vs = record { verdict = success; list = record { words = vs; count = n } }
+  all_made i n ws b e m = ap listing_told (all_words i n ws b e m) ∙ made_told made n
 
 -- ---- words that are given
 
-module _ (side : Side) (l : Words) where
-  pub listed_refused : ((shape_for side l).number ≡ 0 → ⊥) → listed_of side l ≡ write_refused (shape_for side l).number (shape_for side l).place
-  unfolding listed_of
-  listed_refused f = as_shape_refused write_refused side l (record { verdict = success; list = l }) f
+-- the listing of the result
+pub listed_told : (side : Side) (l : Words) → listing_told (listed_as side l) ≡ listed_of side l
+unfolding listed_as listed_of
+listed_told side l = onto listing_told err (refusals_for side l) (Ok l)
 
-  pub listed_passes : (shape_for side l).number ≡ 0 → listed_of side l ≡ record { verdict = success; list = l }
-  unfolding listed_of
-  listed_passes e = as_shape_passes write_refused side l (record { verdict = success; list = l }) e
+-- ---- the words made, finished
+
+pub finished_on : (side : Side) (m : Listing) → m.verdict.number ≡ 0 → finished_of side m ≡ listed_of side m.list
+finished_on side m z = rw (eq-eqb m.verdict.number 0 z)
+
+pub finished_not : (side : Side) (m : Listing) → (m.verdict.number ≡ 0 → ⊥) → finished_of side m ≡ m
+finished_not side m f = rw (ne_eqb m.verdict.number 0 f)
 
 -- what was made is finished by its shape, and what was refused stays refused
 pub finished_first : (side : Side) (l : Words) (rs : List Refusal) → numbered rs ≡ true
@@ -95,7 +110,7 @@ finished_first side l (refusal false n p ∷ rs) t = finished_first side l rs (n
 
 module _ (side : Side) (made : ℕ → Option ℕ) (n : ℕ) where
   pub write_numbered : numbered (writing_refusals side made n) ≡ true
-  write_numbered = numbered_append (made_rows made n) (refusals_for side (words_from made n)) (made_numbered made n) (shape_numbered side (words_from made n))
+  write_numbered = numbered_append (making_rows made n) (refusals_for side (words_from made n)) (made_numbered made n) (shape_numbered side (words_from made n))
 
   pub write_miscounted : bad_count n ≡ true → written_from side made n ≡ write_refused 10 0
   unfolding written_from
@@ -104,8 +119,8 @@ module _ (side : Side) (made : ℕ → Option ℕ) (n : ℕ) where
   pub made_finished : finished_of side (made_from made n) ≡ written_from side made n
   unfolding made_from written_from listed_of
   made_finished =
-      finished_first side (words_from made n) (made_rows made n) (made_numbered made n)
-      ∙ sym (onward write_refused (written_as made n) (made_rows made n) (refusals_for side (words_from made n)))
+      finished_first side (words_from made n) (making_rows made n) (made_numbered made n)
+      ∙ sym (onward write_refused (written_as made n) (making_rows made n) (refusals_for side (words_from made n)))
 
   pub write_clear : NoneApply (writing_refusals side made n) → written_from side made n ≡ written_as made n
   unfolding written_from

@@ -13,15 +13,10 @@ fn decode_words(list: Words, count: u8) -> Objects
     ensures { result ≡ objects_to list.words count }
 {
     let mut places = [EMPTY_PLACE; 7];
-    let mut i: u8 = 0;
-    while i < count {
-        let at = i as usize;
-        let w = list.words[at];
-        let d = objects::decode(w);
-        if let Some(object) = d {
-            places[at] = Place { object };
+    for (i, w) in list.words[..count as usize].iter().enumerate() {
+        if let Some(object) = objects::decode(*w) {
+            places[i] = Place { object };
         }
-        i += 1;
     }
     Objects { places, count }
 }
@@ -31,10 +26,8 @@ pub fn read(list: Words) -> Reading
     ensures { Reads list result }
 {
     let shaped = readable(Side::Source, list);
-    let verdict = shaped.verdict;
-    let objects = decode_words(list, shaped.count);
     Reading {
-        verdict,
-        list: objects,
+        verdict: shaped.verdict,
+        list: decode_words(list, shaped.count),
     }
 }

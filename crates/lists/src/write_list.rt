@@ -1,7 +1,6 @@
 // Writing: from objects to words.
 ghost use Rattle.std.specs.Prelude.{◌≡◌};
-ghost use Rattle.lists.specs.Writing.{listed_of};
-ghost use Rattle.lists.specs.Making.{made_of};
+ghost use Rattle.lists.specs.Making.{made_of, listed_as};
 ghost use Rattle.lists.specs.Promises.{Refuses, Finishes, Writes};
 
 use crate::shape_check::{bad_count, shape_for};
@@ -20,44 +19,29 @@ pub fn refuse(number: u8, place: u8) -> Listing
 }
 
 // The word of each object, until one has a field too wide.
-fn encode_places(list: Objects) -> Listing
+fn encode_places(list: Objects) -> Result<Words, Verdict>
     ensures { result ≡ made_of list }
 {
     let count = list.count;
     if bad_count(count) {
-        return refuse(verdicts::COUNT, 0);
+        return Err(Verdict::placeless(verdicts::COUNT));
     }
     let mut words = [0u32; 7];
-    let mut i: u8 = 0;
-    while i < count {
-        let at = i as usize;
-        let place = list.places[at];
-        let object = place.object;
-        let e = objects::encode(object);
-        let Some(w) = e else {
-            return refuse(verdicts::FIELD_TOO_WIDE, i + 1);
-        };
-        words[at] = w;
-        i += 1;
+    for (i, place) in list.places[..count as usize].iter().enumerate() {
+        words[i] = objects::encode(place.object).ok_or(Verdict::at(
+            verdicts::FIELD_TOO_WIDE,
+            i as u8 + 1,
+        ))?;
     }
-    Listing {
-        verdict: Verdict {
-            number: verdicts::SUCCESS,
-            place: 0,
-        },
-        list: Words { words, count },
-    }
+    Ok(Words { words, count })
 }
 
-// These words, if they make a list of this side, and none where they do not.
-fn listed(side: Side, list: Words) -> Listing
-    ensures { result ≡ listed_of side list }
+// These words, if they make a list of this side.
+fn listed(side: Side, list: Words) -> Result<Words, Verdict>
+    ensures { result ≡ listed_as side list }
 {
-    let verdict = shape_for(side, list);
-    if verdict.number != verdicts::SUCCESS {
-        return refuse(verdict.number, verdict.place);
-    }
-    Listing { verdict, list }
+    shape_for(side, list).passed()?;
+    Ok(list)
 }
 
 // The words that were made of objects, if they make a list of this side: how writing ends, whatever form the objects had. Refusals: the one
@@ -65,16 +49,15 @@ fn listed(side: Side, list: Words) -> Listing
 pub fn finished(side: Side, made: Listing) -> Listing
     ensures { Finishes side made result }
 {
-    let verdict = made.verdict;
-    if verdict.number != verdicts::SUCCESS {
-        return made;
+    match made.verdict.passed() {
+        Ok(()) => Listing::from(listed(side, made.list)),
+        Err(_) => made,
     }
-    listed(side, made.list)
 }
 
 // The words of a list of objects. Refusals: 10; 7 (the first such object); then those of `shape` for the words made.
 pub fn write(list: Objects) -> Listing
     ensures { Writes list result }
 {
-    finished(Side::Source, encode_places(list))
+    finished(Side::Source, Listing::from(encode_places(list)))
 }

@@ -1,71 +1,69 @@
 -- `lists::object_rules::out_of_bounds` meets its contract: a test on figures is the test on millivolts.
 -- Assumes nothing.
-use mathlib.Core.Path.{sym, ◌∙◌}
-use Prim.Native.Nat.{◌*◌}
+use Rattle.std.specs.Ordering.{is_lt, nat_cmp}
+use mathlib.Core.Path.{◌≡◌, sym, ◌∙◌}
+use mathlib.Core.Bool.{Bool, true, false, not, ◌&&◌}
+use mathlib.Core.Logic.{⊎_elim}
+use Prim.Native.Nat.{ℕ, ◌*◌, ◌<◌}
 use lib.Dec.{leb}
 use native.Mathlib.Omega.{arith}
-use borrow.Author.Tests.{lt-ltb, le-ltb}
 use Rattle.steps.proofs.StepTests.{past}
 use Rattle.verdicts.proofs.Bools.{not_first, not_second}
 use Rattle.lists.specs.ObjectRules.{out_of_bounds}
+use Rattle.lists.proofs.Orders.{same_less}
 use Rattle.lists.proofs.object_rules.out_of_bounds.Goals as goal
 
-pub returns-then-max-gt420 : goal.returns-then-max-gt420
-unfolding out_of_bounds
-returns-then-max-gt420 c =
-    let x = c.in-Battery.max.0 in
-    let m = c.in-Battery.min.0 in
-    rw c.in-Battery.is
-    (sym (not_first (leb (x * 50) 21000) (leb (m * 50) (x * 50)) (sym (past 50 420 x (omega arith)) ∙ lt-ltb _ _ c.if-max-gt420.true)))
+-- a maximum and a minimum, by the figures of their step
+module _ (step bound max min : ℕ) (pos : 0 < step) (above : Bool) (e : above ≡ is_lt (nat_cmp bound max)) where
+  abbrev low : Bool
+  low = leb (max * step) (bound * step)
 
-pub returns-then-max-gt420-2 : goal.returns-then-max-gt420-2
-unfolding out_of_bounds
-returns-then-max-gt420-2 c =
-    let x = c.in-Variable.max.0 in
-    let m = c.in-Variable.min.0 in
-    rw c.in-Variable.is
-    (sym (not_first (leb (x * 50) 21000) (leb (m * 50) (x * 50)) (sym (past 50 420 x (omega arith)) ∙ lt-ltb _ _ c.if-max-gt420-2.true)))
+  abbrev in_order : Bool
+  in_order = leb (min * step) (max * step)
 
-pub returns-then-max-gt210 : goal.returns-then-max-gt210
-unfolding out_of_bounds
-returns-then-max-gt210 c =
-    let x = c.in-Pps.max.0 in
-    let m = c.in-Pps.min.0 in
-    rw c.in-Pps.is
-    (sym (not_first (leb (x * 100) 21000) (leb (m * 100) (x * 100)) (sym (past 100 210 x (omega arith)) ∙ lt-ltb _ _ c.if-max-gt210.true)))
+  above_is : above ≡ not low
+  above_is = e ∙ same_less bound max ∙ past step bound max pos
+
+  too_high : above ≡ true → above ≡ not (low && in_order)
+  too_high t = t ∙ sym (not_first low in_order (sym above_is ∙ t))
+
+  crossed : (r : Bool) → above ≡ false → r ≡ is_lt (nat_cmp max min) → r ≡ not (low && in_order)
+  crossed r t q = q ∙ same_less max min ∙ past step max min pos ∙ sym (not_second low in_order (sym above_is ∙ t))
 
 pub returns-in-Fixed : goal.returns-in-Fixed
 unfolding out_of_bounds
 returns-in-Fixed c =
-    rw c.in-Fixed.is (past 50 400 c.in-Fixed.volts.0 (omega arith))
+    let v = c.in-Fixed.volts.0 in
+    rw c.in-Fixed.is (c.lt.ensures ∙ same_less 400 v ∙ past 50 400 v (omega arith))
 
-pub returns-else-max-gt420 : goal.returns-else-max-gt420
+pub returns-then-lt : goal.returns-then-lt
 unfolding out_of_bounds
-returns-else-max-gt420 c =
-    let x = c.in-Battery.max.0 in
-    let m = c.in-Battery.min.0 in
-    rw c.in-Battery.is
-    (past 50 x m (omega arith)
-    ∙ sym (not_second (leb (x * 50) 21000) (leb (m * 50) (x * 50)) (sym (past 50 420 x (omega arith)) ∙ le-ltb _ _ c.if-max-gt420.false)))
+returns-then-lt c =
+    let p = c.in-Pps in
+    rw p.is (too_high 100 210 p.max.0 p.min.0 (omega arith) c.lt-in-Pps.result c.lt-in-Pps.ensures c.if-lt.true)
 
-pub returns-else-max-gt420-2 : goal.returns-else-max-gt420-2
+pub returns-else-lt : goal.returns-else-lt
 unfolding out_of_bounds
-returns-else-max-gt420-2 c =
-    let x = c.in-Variable.max.0 in
-    let m = c.in-Variable.min.0 in
-    rw c.in-Variable.is
-    (past 50 x m (omega arith)
-    ∙ sym (not_second (leb (x * 50) 21000) (leb (m * 50) (x * 50)) (sym (past 50 420 x (omega arith)) ∙ le-ltb _ _ c.if-max-gt420-2.false)))
+returns-else-lt c =
+    let p = c.in-Pps in
+    rw p.is
+    (crossed 100 210 p.max.0 p.min.0 (omega arith) c.lt-in-Pps.result c.lt-in-Pps.ensures c.lt-else-lt.result c.if-lt.false c.lt-else-lt.ensures)
 
-pub returns-else-max-gt210 : goal.returns-else-max-gt210
+pub returns-then-lt-2 : goal.returns-then-lt-2
 unfolding out_of_bounds
-returns-else-max-gt210 c =
-    let x = c.in-Pps.max.0 in
-    let m = c.in-Pps.min.0 in
-    rw c.in-Pps.is
-    (past 100 x m (omega arith)
-    ∙ sym (not_second (leb (x * 100) 21000) (leb (m * 100) (x * 100))
-    (sym (past 100 210 x (omega arith)) ∙ le-ltb _ _ c.if-max-gt210.false)))
+returns-then-lt-2 c =
+    let b = c.in-Battery in
+    let r = too_high 50 420 b.max.0 b.min.0 (omega arith) c.lt-in-Battery.result c.lt-in-Battery.ensures c.if-lt-2.true in
+    ⊎_elim (λ k. rw k.1 r) (λ k. rw k.1 r) b.is
+
+pub returns-else-lt-2 : goal.returns-else-lt-2
+unfolding out_of_bounds
+returns-else-lt-2 c =
+    let b = c.in-Battery in
+    let r =
+    crossed 50 420 b.max.0 b.min.0 (omega arith) c.lt-in-Battery.result c.lt-in-Battery.ensures c.lt-else-lt-2.result c.if-lt-2.false
+    c.lt-else-lt-2.ensures in
+    ⊎_elim (λ k. rw k.1 r) (λ k. rw k.1 r) b.is
 
 pub returns-in-Avs : goal.returns-in-Avs
 unfolding out_of_bounds

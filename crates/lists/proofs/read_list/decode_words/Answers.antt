@@ -1,16 +1,15 @@
 -- `lists::read_list::decode_words` meets its contract: the invariant is that the places passed are filled.
 -- Assumes nothing.
 use Rattle.std.specs.Prelude.{Option}
-use Rattle.objects.specs.declared.Object.{Object}
-use borrow.Author.Rules.{rules}
 use mathlib.Core.Path.{ap, ap₂, sym, ◌∙◌}
 use mathlib.Core.List.{List}
 use Prim.Native.Nat.{◌<◌}
 use native.Mathlib.Omega.{arith}
 use lib.ListN.{set}
-use Rattle.objects.proofs.Saying.{decoded_is}
+use Rattle.objects.specs.declared.Object.{Object}
 use Rattle.lists.specs.declared.Place.{Place}
 use Rattle.lists.specs.Reading.{empty_place, object_of, place_of}
+use Rattle.lists.proofs.Counted.{counted_below, decoded_in}
 use Rattle.lists.proofs.Sevens.{none_filled, one_filled, one_blank}
 use Rattle.lists.proofs.read_list.decode_words.Goals as goal
 use Rattle.lists.proofs.read_list.decode_words.Goals.{in-Some, in_default}
@@ -19,23 +18,19 @@ abbrev placed : Option Object → Place
 placed d = record { object = object_of d }
 
 pub loop-i-init : goal.loop-i-init
-loop-i-init c = (search rules, none_filled _ _)
+loop-i-init c = none_filled _ _
 
 pub loop-i-preserved : goal.loop-i-preserved
 loop-i-preserved c =
-    let l = c.args.list in
     let at = c.loop-i in
-    let f = place_of l.words in
-    let below : at.i < 7 = omega arith in (
-      omega arith,
-      elim c.match-d.branch [
-        | in-Some w ↦
-            w.places-is
-            ∙ ap₂ (λ (ps : List Place) (p : Place). set ps at.i p) at.invariant.1
-            (sym (ap placed (sym (decoded_is _ _ c.decode-d.ensures) ∙ w.in-Some.is)))
-            ∙ one_filled f empty_place at.i below
-        | in_default w ↦
-            w.places-is ∙ at.invariant.1
-            ∙ one_blank f empty_place at.i below (ap placed (sym (decoded_is _ _ c.decode-d.ensures) ∙ w.in_default.is))
-      ],
-    )
+    let f = place_of c.args.list.words in
+    let h = c.loop-i-test.true in
+    let below : at.i < 7 = omega (arith, counted_below _ _ _ h) in
+    let decoded = decoded_in _ _ _ _ h c.decode.ensures in elim c.match-decode.branch [
+      | in-Some w ↦
+          w.places-is
+          ∙ ap₂ (λ (ps : List Place) (p : Place). set ps at.i p) at.invariant (sym (ap placed (sym decoded ∙ w.in-Some.is)))
+          ∙ one_filled f empty_place at.i below
+      | in_default w ↦
+          w.places-is ∙ at.invariant ∙ one_blank f empty_place at.i below (ap placed (sym decoded ∙ w.in_default.is))
+    ]

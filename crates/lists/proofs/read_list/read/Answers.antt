@@ -15,12 +15,12 @@ use Rattle.lists.proofs.read_list.read.Goals as goal
 abbrev reading : Verdict → Objects → Reading
 reading v o = record { verdict = v; list = o }
 
-pub decode_words-objects-requires : goal.decode_words-objects-requires
-decode_words-objects-requires c = subst (λ (s : Shaped). s.count ≤ 7) (sym c.readable-shaped.ensures) (shaped_count Source _)
+pub decode_words-requires : goal.decode_words-requires
+decode_words-requires c = subst (λ (s : Shaped). s.count ≤ 7) (sym c.readable-shaped.ensures) (shaped_count Source _)
 
 pub returns : goal.returns
 returns c =
     let l = c.args.list in
-    ap (reading c.readable-shaped.result.verdict) c.decode_words-objects.ensures
+    ap (reading c.readable-shaped.result.verdict) c.decode_words.ensures
     ∙ ap (λ (s : Shaped). reading s.verdict (objects_to l.words s.count)) c.readable-shaped.ensures
     ∙ read_shaped Source l

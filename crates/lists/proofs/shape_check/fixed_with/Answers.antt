@@ -1,43 +1,34 @@
 -- `lists::shape_check::fixed_with` meets its contract: the kind is looked at first, then the voltage, then the current.
 -- Assumes nothing.
-use mathlib.Core.Path.{ap, sym, ◌∙◌}
+use mathlib.Core.Path.{◌≡◌, ap, sym, ◌∙◌}
 use mathlib.Core.Bool.{Bool, ◌&&◌}
-use Prim.Native.Nat.{ℕ}
-use native.Mathlib.Omega.{arith}
+use lib.Bits.{bit_and}
 use lib.Dec.{eqb}
-use borrow.Author.Tests.{eq-eqb, ne_eqb}
-use Rattle.steps.specs.Units.{mv50}
-use Rattle.steps.specs.declared.Mv50.{Mv50}
-use Rattle.steps.specs.declared.Ma10.{Ma10}
-use Rattle.steps.proofs.StepTests.{at}
-use Rattle.objects.specs.Bits.{bits}
-use Rattle.objects.proofs.Taking.{taken, taken_low}
-use Rattle.lists.proofs.Telling.{no_fixed, a_fixed}
+use Rattle.objects.specs.Decode.{is_kind}
+use Rattle.lists.proofs.Telling.{volts_of, fixed_told}
 use Rattle.lists.proofs.shape_check.fixed_with.Goals as goal
-
-abbrev asked : Mv50 → Ma10 → Mv50 → Ma10 → Bool
-asked volts current v a = eqb (mv50 v) (mv50 volts) && eqb a.0 current.0
-
-pub returns-then-not-is_kind : goal.returns-then-not-is_kind
-returns-then-not-is_kind c =
-    let x = c.args in
-    sym (no_fixed (asked x.volts x.current) x.w (sym c.is_kind.ensures ∙ c.if-not-is_kind.true))
+use Rattle.lists.proofs.shape_check.fixed_with.Goals.{then-is_kind, else-is_kind}
 
 pub returns-then-w-volts : goal.returns-then-w-volts
 returns-then-w-volts c =
-    let k = c.before.before in
-    let x = k.args in
-    let v = bits x.w 19 10 in
-    sym (a_fixed (asked x.volts x.current) x.w (sym k.is_kind.ensures ∙ k.if-not-is_kind.false)
-    ∙ ap (λ (b : Bool). b && eqb (bits x.w 9 0) x.current.0)
-    (sym (at 50 x.volts.0 v (omega arith)) ∙ ne_eqb v x.volts.0 (λ e. c.if-w-volts.true (taken x.w 19 10 ∙ e))))
+    let x = c.args in
+    let at_volts = eqb (volts_of x.w) x.volts.0 in
+    let at_current = eqb (bit_and x.w 1023) x.current.0 in
+    let both : c.if-is_kind.value ≡ (is_kind x.w 0 && at_volts) = elim c.if-is_kind.branch [
+      | then-is_kind w ↦ w.value-is ∙ sym (ap (λ (k : Bool). k && at_volts) (sym c.is_kind.ensures ∙ w.if-is_kind.true))
+      | else-is_kind w ↦
+          w.value-is ∙ w.if-is_kind.false ∙ sym (ap (λ (k : Bool). k && at_volts) (sym c.is_kind.ensures ∙ w.if-is_kind.false))
+    ] in
+    sym (fixed_told x.w x.volts x.current ∙ ap (λ (b : Bool). b && at_current) (sym both ∙ c.if-w-volts.true))
 
-pub returns : goal.returns
-returns c =
-    let k = c.before.before.before in
-    let x = k.args in
-    let v = bits x.w 19 10 in
-    ap (λ (a : ℕ). eqb a x.current.0) (taken_low x.w 9)
-    ∙ sym (a_fixed (asked x.volts x.current) x.w (sym k.is_kind.ensures ∙ k.if-not-is_kind.false)
-    ∙ ap (λ (b : Bool). b && eqb (bits x.w 9 0) x.current.0)
-    (sym (at 50 x.volts.0 v (omega arith)) ∙ eq-eqb v x.volts.0 (sym (taken x.w 19 10) ∙ c.if-w-volts.false)))
+pub returns-else-w-volts : goal.returns-else-w-volts
+returns-else-w-volts c =
+    let x = c.args in
+    let at_volts = eqb (volts_of x.w) x.volts.0 in
+    let at_current = eqb (bit_and x.w 1023) x.current.0 in
+    let both : c.if-is_kind.value ≡ (is_kind x.w 0 && at_volts) = elim c.if-is_kind.branch [
+      | then-is_kind w ↦ w.value-is ∙ sym (ap (λ (k : Bool). k && at_volts) (sym c.is_kind.ensures ∙ w.if-is_kind.true))
+      | else-is_kind w ↦
+          w.value-is ∙ w.if-is_kind.false ∙ sym (ap (λ (k : Bool). k && at_volts) (sym c.is_kind.ensures ∙ w.if-is_kind.false))
+    ] in
+    c.if-w-volts.false ∙ sym (fixed_told x.w x.volts x.current ∙ ap (λ (b : Bool). b && at_current) (sym both ∙ c.if-w-volts.false))

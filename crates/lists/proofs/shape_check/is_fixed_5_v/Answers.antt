@@ -1,27 +1,17 @@
 -- `lists::shape_check::is_fixed_5_v` meets its contract: 5 V is 100 steps of 50 mV.
 -- Assumes nothing.
 use mathlib.Core.Path.{ap, sym, ◌∙◌}
-use Prim.Native.Nat.{ℕ}
-use native.Mathlib.Omega.{arith}
+use mathlib.Core.Bool.{Bool, ◌&&◌}
 use lib.Dec.{eqb}
-use Rattle.steps.specs.Units.{mv50}
-use Rattle.steps.proofs.StepTests.{at}
-use Rattle.objects.specs.Bits.{bits}
-use Rattle.objects.proofs.Taking.{taken}
-use Rattle.lists.specs.Shape.{is_fixed_5_V}
-use Rattle.lists.proofs.Telling.{no_fixed, a_fixed}
+use Rattle.lists.proofs.Telling.{volts_of, fixed_5_V_told}
 use Rattle.lists.proofs.shape_check.is_fixed_5_v.Goals as goal
 
-pub returns-then-not-is_kind : goal.returns-then-not-is_kind
-unfolding is_fixed_5_V
-returns-then-not-is_kind c =
+pub returns-then-is_kind : goal.returns-then-is_kind
+returns-then-is_kind c =
     let w = c.args.w in
-    sym (no_fixed (λ v a. eqb (mv50 v) 5000) w (sym c.is_kind.ensures ∙ c.if-not-is_kind.true))
+    sym (fixed_5_V_told w ∙ ap (λ (k : Bool). k && eqb (volts_of w) 100) (sym c.is_kind.ensures ∙ c.if-is_kind.true))
 
-pub returns : goal.returns
-unfolding is_fixed_5_V
-returns c =
+pub returns-else-is_kind : goal.returns-else-is_kind
+returns-else-is_kind c =
     let w = c.args.w in
-    ap (λ (x : ℕ). eqb x 100) (taken w 19 10)
-    ∙ at 50 100 (bits w 19 10) (omega arith)
-    ∙ sym (a_fixed (λ v a. eqb (mv50 v) 5000) w (sym c.is_kind.ensures ∙ c.if-not-is_kind.false))
+    c.if-is_kind.false ∙ sym (fixed_5_V_told w ∙ ap (λ (k : Bool). k && eqb (volts_of w) 100) (sym c.is_kind.ensures ∙ c.if-is_kind.false))

@@ -1,27 +1,26 @@
 -- `lists::listed` meets its contract: the shape of the words decides.
 -- Assumes nothing.
+use Rattle.std.specs.Prelude.{Ok, Err}
+use Rattle.std.proofs.lemmas.Result.{err_from_is_err_and}
 use mathlib.Core.Path.{ap, sym, ◌∙◌}
-use Rattle.verdicts.specs.declared.Verdict.{Verdict}
-use Rattle.lists.specs.declared.Words.{Words}
-use Rattle.lists.specs.declared.Listing.{Listing}
-use Rattle.lists.specs.Writing.{write_refused}
-use Rattle.lists.proofs.Shapes.{shape_success}
-use Rattle.lists.proofs.Writings.{listed_refused, listed_passes}
+use Rattle.verdicts.specs.Refusals.{passed_of, err}
+use Rattle.verdicts.proofs.Results.{went_on, stopped_as, stopped_not_0}
+use Rattle.lists.specs.Shape.{shape_for}
+use Rattle.lists.specs.Making.{listed_as}
+use Rattle.lists.proofs.Shapes.{as_shape_refused, as_shape_passes}
 use Rattle.lists.proofs.write_list.listed.Goals as goal
 
-abbrev given : Verdict → Words → Listing
-given v l = record { verdict = v; list = l }
-
-pub returns-then-verdict-ne-SUCCESS : goal.returns-then-verdict-ne-SUCCESS
-returns-then-verdict-ne-SUCCESS c =
-    let e = c.shape_for-verdict.ensures in
-    c.refuse.ensures
-    ∙ ap (λ (v : Verdict). write_refused v.number v.place) e
-    ∙ sym (listed_refused _ _ (λ z. c.if-verdict-ne-SUCCESS.true (ap (λ (v : Verdict). v.number) e ∙ z)))
+pub returns-in_err-passed : goal.returns-in_err-passed
+unfolding listed_as
+returns-in_err-passed c =
+    let a = c.args in
+    let out = err_from_is_err_and c.from_residual.result c.from_residual.ensures.1 in
+    let stopped = sym (c.passed.ensures ∙ ap passed_of c.shape_for.ensures) ∙ c.in_err-passed.was in
+    out.1 ∙ ap Err (out.2 ∙ stopped_as _ stopped)
+    ∙ sym (as_shape_refused err a.side a.list (Ok a.list) (stopped_not_0 (shape_for a.side a.list) stopped))
 
 pub returns : goal.returns
+unfolding listed_as
 returns c =
-    let l = c.args.list in
-    let e = c.shape_for-verdict.ensures in
-    let z = sym (ap (λ (v : Verdict). v.number) e) ∙ c.if-verdict-ne-SUCCESS.false in
-    ap (λ (v : Verdict). given v l) (e ∙ shape_success _ l z) ∙ sym (listed_passes _ l z)
+    let a = c.args in
+    sym (as_shape_passes err a.side a.list (Ok a.list) (went_on (shape_for a.side a.list) (sym (c.passed.ensures ∙ ap passed_of c.shape_for.ensures) ∙ c.in_ok-passed.was)))
