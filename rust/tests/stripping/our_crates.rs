@@ -10,46 +10,90 @@ const LIBRARY: [&str; 12] = [
     "ports", "flat", "board",
 ];
 
-/// Line by line, and without reading Rust at all: every file of ours keeps contracts and `ghost use` on lines of their own. What goes on has
-/// further lines that are indented more, and a `ghost use` one more line that ends it.
+/// What begins a line that only the prover reads.
+const GHOST: [&str; 11] = [
+    "ghost ",
+    "pub ghost ",
+    "pub(crate) ghost ",
+    "const _: () = prove!(",
+    "impl Model for ",
+    "ensures ",
+    "requires ",
+    "prove!(",
+    "#[unsafe(no_mangle)]",
+    "#[tactic(",
+    "#![tactic(",
+];
+
+/// Of these, how many have a comment above them that goes with them.
+const SAID: usize = 7;
+
+fn is_comment(line: &String) -> bool {
+    line.trim_start().starts_with("//")
+}
+
+fn indent(line: &str) -> usize {
+    line.len() - line.trim_start().len()
+}
+
+/// Line by line, and without reading Rust at all: every file of ours keeps ghost text on lines of its own. What goes on has further lines that
+/// are indented more, and a line that ends it with a bracket as deep as the first.
 fn without_ghost_lines(name: &str, text: &str) -> Vec<String> {
-    let ghost = [
-        "ghost use ",
-        "ensures ",
-        "requires ",
-        "prove!(",
-        "#[unsafe(no_mangle)]",
-        "#[tactic(",
-        "#![tactic(",
-        "#[derive(Clone, Copy)]",
-    ];
-    let indent = |line: &str| line.len() - line.trim_start().len();
-    let mut kept = Vec::new();
+    let mut kept: Vec<String> = Vec::new();
     let mut above = None;
+    let mut model = false;
     for line in text.lines() {
-        if above.is_some_and(|a| indent(line) > a) || above == Some(0) && line == "};" {
+        let begins = line.trim_start();
+        if model {
+            model = line != "}";
             continue;
         }
-        let is_ghost = ghost.iter().any(|g| line.trim_start().starts_with(g));
-        above = is_ghost.then_some(indent(line));
-        if !is_ghost {
-            kept.push(line);
+        let goes_on = |a| indent(line) > a || indent(line) == a && begins.starts_with(['}', ')']);
+        if above.is_some_and(goes_on) {
+            end_of_a_declaration(line, &mut kept);
+            continue;
+        }
+        let ghost = GHOST.iter().position(|g| begins.starts_with(g));
+        let derive = begins.starts_with("#[derive(");
+        above = (ghost.is_some() || derive).then_some(indent(line));
+        model = ghost == Some(4);
+        if ghost.is_some_and(|at| at < SAID) {
+            // But for that at the head of the file.
+            while !kept.iter().all(is_comment) && kept.last().is_some_and(is_comment) {
+                kept.pop();
+            }
+            end_of_a_declaration(line, &mut kept);
+        }
+        if above.is_none() {
+            kept.push(line.to_string());
         }
     }
     let kept = kept.into_iter();
     kept.map(|line| match line.trim_start().starts_with("//") {
-        true => line.to_string(),
+        true => line,
         false => line
             .replace("extern \"C\" fn", "fn")
+            .replace("std::", "core::")
             .replace("crate::", &format!("crate::{name}::")),
     })
     .collect()
 }
 
+/// Where a trait declares a function, the semicolon behind its last clause is that of the function.
+fn end_of_a_declaration(line: &str, kept: &mut [String]) {
+    let Some(last) = kept.last_mut() else {
+        return;
+    };
+    let clause = !line.trim_start().starts_with("ghost ") && last.trim_start().starts_with("fn ");
+    if clause && line.ends_with("};") {
+        last.push(';');
+    }
+}
+
 /// The lines that the reader gives, with plain comments again and without the attributes that it adds.
 fn without_additions(text: &str) -> Vec<String> {
     let added = [
-        "#[derive(Clone, Copy, ",
+        "#[derive(",
         "#[inline]",
         "#[inline(always)]",
         "#[inline(never)]",
@@ -116,7 +160,8 @@ fn functions_known_by_name() {
     let marked = |mark: &str| -> Vec<&str> {
         let behind = library.split(mark).skip(1);
         let seen = behind.map(|text| text.trim_start().trim_start_matches("pub(crate) "));
-        seen.filter_map(|text| text.trim_start_matches("pub ").split('(').next()).collect()
+        seen.filter_map(|text| text.trim_start_matches("pub ").split('(').next())
+            .collect()
     };
     assert_eq!(
         marked("#[inline(never)]"),
