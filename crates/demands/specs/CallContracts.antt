@@ -4,7 +4,7 @@
 -- lent rows, by the names that are their clauses (crates/board/specs/Promises.antt); where a claim is over a definition that a contract cites,
 -- the head of its file says so.
 -- Assumes nothing.
-use Rattle.std.specs.Prelude.{Bool, ℕ, Option}
+use Rattle.std.specs.Prelude.{Result, Bool, ℕ, Option}
 use Rattle.verdicts.specs.declared.Verdict.{Verdict}
 use Rattle.steps.specs.declared.Mv20.{Mv20}
 use Rattle.steps.specs.declared.Mv25.{Mv25}
@@ -12,6 +12,9 @@ use Rattle.steps.specs.declared.Mv50.{Mv50}
 use Rattle.steps.specs.declared.Mv100.{Mv100}
 use Rattle.steps.specs.declared.Ma10.{Ma10}
 use Rattle.steps.specs.declared.Ma50.{Ma50}
+use Rattle.verdicts.proofs.Verdict.placeless.Reads as verdict_placeless
+use Rattle.verdicts.proofs.Verdict.at.Reads as verdict_at
+use Rattle.verdicts.proofs.Verdict.passed.Reads as verdict_passed
 use Rattle.steps.proofs.round_down.Reads as round_down
 use Rattle.steps.proofs.round_up.Reads as round_up
 use Rattle.steps.specs.declared.Roundings.{Roundings}
@@ -84,6 +87,17 @@ use Rattle.ports.proofs.detach.Reads as detach
 use Rattle.ports.proofs.remaining.Reads as remaining
 
 -- ---- steps
+
+-- ---- verdicts
+
+abbrev pub VerdictPlacelessAnswers : ℕ → Verdict → Type 0
+VerdictPlacelessAnswers number r = verdict_placeless.Post tt (number, tt) r (number, tt)
+
+abbrev pub VerdictAtAnswers : ℕ → ℕ → Verdict → Type 0
+VerdictAtAnswers number place r = verdict_at.Post tt (number, (place, tt)) r (number, (place, tt))
+
+abbrev pub VerdictPassedAnswers : Verdict → Result (Unit {0}) Verdict → Type 0
+VerdictPassedAnswers v r = verdict_passed.Post tt (v, tt) r (v, tt)
 
 abbrev pub RoundDownAnswers : ℕ → ℕ → ℕ → Type 0
 RoundDownAnswers numerator divisor r = round_down.Post tt (numerator, (divisor, tt)) r (numerator, (divisor, tt))
