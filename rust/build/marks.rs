@@ -74,20 +74,24 @@ const INLINE_NEVER: &str = "#[inline(never)]";
 /// A function that is given the side of a list is put into its callers, which know the side: rustc then makes one of it for each side.
 const BY_SIDE: &str = "side: Side";
 
-/// Kept whole: in the midst of its callers the shape check of each side makes them longer and slower, and a row of a summary is read there
-/// from a copy of all seven.
-const WHOLE: [&str; 3] = ["lists::shape", "lists::shape_sink", "summaries::row_at"];
+/// Kept whole: in the midst of its callers the shape check of each side makes them longer and slower.
+pub const WHOLE: [&str; 2] = ["lists::shape", "lists::shape_sink"];
 
-/// Put into their callers too: these take an object or a decoded request that the caller has just made, or make one that it takes apart.
-const OBJECTS_AND_WORDS: [&str; 8] = [
+/// Put into their callers too: these take an object or a decoded request that the caller has just made, or make one that it takes apart; or
+/// they give a list, a message or an object, or its refusal, and would copy it once more.
+pub const PUT_IN: [&str; 12] = [
     "objects::decode_sink",
     "objects::encode",
+    "rules::built",
     "requests::take_apart",
-    "sinks::sink_decode",
     "summaries::answer_summary",
-    "summaries::sorted",
+    "summaries::named",
     "summaries::take_request",
-    "flat::flatten_request",
+    "summaries::TakenRequest::from",
+    "messages::taken_apart",
+    "sinks::sink_decode",
+    "sinks::SinkObject::try_from",
+    "flat::FlatRequest::from",
 ];
 
 /// Whether a type may derive this.
@@ -122,7 +126,7 @@ pub fn marks(path: &str, given: &str, gives: &str, public: bool, body: bool) -> 
     }
     marks.push(if WHOLE.contains(&path) {
         INLINE_NEVER
-    } else if given.contains(BY_SIDE) || OBJECTS_AND_WORDS.contains(&path) {
+    } else if given.contains(BY_SIDE) || PUT_IN.contains(&path) {
         INLINE_ALWAYS
     } else {
         INLINE

@@ -4,7 +4,7 @@
 #[path = "ghost.rs"]
 mod ghost;
 #[path = "marks.rs"]
-mod marks;
+pub mod marks;
 #[path = "text.rs"]
 mod text;
 

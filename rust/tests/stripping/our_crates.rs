@@ -1,13 +1,24 @@
 //! The proved source itself, against a rule that goes by lines and reads no Rust.
 
+use crate::strip::marks::{PUT_IN, WHOLE};
 use crate::strip::strip;
 use std::fs;
 use std::path::{Path, PathBuf};
 
 /// The crates that `build.rs` reads.
 const LIBRARY: [&str; 12] = [
-    "verdicts", "steps", "objects", "lists", "rules", "requests", "summaries", "messages", "sinks",
-    "ports", "flat", "board",
+    "verdicts",
+    "steps",
+    "objects",
+    "lists",
+    "rules",
+    "requests",
+    "summaries",
+    "messages",
+    "sinks",
+    "ports",
+    "flat",
+    "board",
 ];
 
 /// What begins a line that only the prover reads.
@@ -153,33 +164,49 @@ fn our_crates_are_left_as_they_are() {
     assert!(lines > 2000);
 }
 
-/// The functions that the reader knows by name are there, under the marks that it has for them.
+/// Each function of a crate by its path, with the mark for rustc that the reader put above it.
+fn marked(name: &str) -> Vec<(String, String)> {
+    let mut found = Vec::new();
+    for (file, text) in files(name) {
+        let stripped = strip(&file, name, &text).unwrap();
+        let (mut of, mut mark) = (String::new(), "");
+        for line in stripped.text.lines() {
+            let code = line.trim_start();
+            let code = code.strip_prefix("pub(crate) ").unwrap_or(code);
+            let code = code.strip_prefix("pub ").unwrap_or(code);
+            let word = |text: &str| {
+                let text = text.split(|c: char| !c.is_ascii_alphanumeric() && c != '_');
+                text.map(String::from).next().unwrap_or_default()
+            };
+            if line.starts_with("impl") {
+                let header = line.rsplit_once(" for ").map(|it| it.1);
+                let header = header.unwrap_or_else(|| line.split_once(' ').unwrap().1);
+                of = word(header) + "::";
+            } else if line == "}" {
+                of.clear();
+            } else if code.starts_with("#[inline") {
+                mark = code;
+            } else if let Some(named) = code.strip_prefix("fn ") {
+                let path = format!("{name}::{of}{}", word(named));
+                found.push((path, mark.to_string()));
+            }
+        }
+    }
+    found
+}
+
+/// The functions that the reader knows by name are there, under the marks that it has for them, and no other is kept whole.
 #[test]
 fn functions_known_by_name() {
-    let library = include_str!(concat!(env!("OUT_DIR"), "/library.rs"));
-    let marked = |mark: &str| -> Vec<&str> {
-        let behind = library.split(mark).skip(1);
-        let seen = behind.map(|text| text.trim_start().trim_start_matches("pub(crate) "));
-        seen.filter_map(|text| text.trim_start_matches("pub ").split('(').next())
-            .collect()
+    let functions: Vec<(String, String)> = LIBRARY.into_iter().flat_map(marked).collect();
+    let with = |mark: &str| -> Vec<&str> {
+        let marked = functions.iter().filter(|it| it.1 == mark);
+        marked.map(|it| it.0.as_str()).collect()
     };
-    assert_eq!(
-        marked("#[inline(never)]"),
-        ["fn shape", "fn shape_sink", "fn row_at"]
-    );
-    let always = marked("#[inline(always)]");
-    for name in [
-        "fn decode_sink",
-        "fn encode",
-        "fn take_apart",
-        "fn sink_decode",
-        "fn answer_summary",
-        "fn sorted",
-        "fn take_request",
-        "fn flatten_request",
-        "fn shape_for",
-    ] {
-        assert!(always.contains(&name), "{name}");
+    assert_eq!(with("#[inline(never)]"), WHOLE);
+    let always = with("#[inline(always)]");
+    for path in PUT_IN.into_iter().chain(["lists::shape_for"]) {
+        assert!(always.contains(&path), "{path}: {always:?}");
     }
 }
 
