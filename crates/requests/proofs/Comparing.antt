@@ -7,7 +7,6 @@ use mathlib.Core.Path.{◌≡◌, refl, sym, ◌∙◌}
 use mathlib.Core.Bool.{Bool, true, false, cond, true≢false}
 use Prim.Native.Nat.{ℕ, ◌*◌, ◌<◌, ◌≤◌, max}
 use native.Mathlib.Omega.{arith}
-use Rattle.steps.specs.declared.Ma10.{Ma10}
 
 module _ (a b : ℕ) where
   below_by : (o : Ordering) → o ≡ nat_cmp a b → is_lt o ≡ true → a < b
@@ -27,9 +26,9 @@ module _ (a b : ℕ) where
   pub is_from : {t : Bool} → t ≡ is_lt (nat_cmp a b) → t ≡ false → b ≤ a
   is_from e q = from_by (nat_cmp a b) refl (sym e ∙ q)
 
--- the larger of two currents
-pub larger : (a b : Ma10) → (cond (is_lt (nat_cmp b.0 a.0)) a b).0 * 10 ≡ max (a.0 * 10) (b.0 * 10)
-larger a b = go (is_lt (nat_cmp b.0 a.0)) refl where
-  go : (t : Bool) → is_lt (nat_cmp b.0 a.0) ≡ t → (cond t a b).0 * 10 ≡ max (a.0 * 10) (b.0 * 10)
-  go true e = let h = is_below b.0 a.0 refl e in omega arith
-  go false e = let h = is_from b.0 a.0 refl e in omega arith
+-- the larger of two figures, by the numbers in them
+pub larger : {X : Type 0} (n : X → ℕ) (a b : X) → n (cond (is_lt (nat_cmp (n b) (n a))) a b) ≡ max (n a) (n b)
+larger n a b = go (is_lt (nat_cmp (n b) (n a))) refl where
+  go : (t : Bool) → is_lt (nat_cmp (n b) (n a)) ≡ t → n (cond t a b) ≡ max (n a) (n b)
+  go true e = let h = is_below (n b) (n a) refl e in omega arith
+  go false e = let h = is_from (n b) (n a) refl e in omega arith
