@@ -10,17 +10,11 @@ use native.Mathlib.Omega.{arith}
 use mathlib.Core.List.{List}
 use lib.ListN.{get_or}
 use Rattle.steps.specs.declared.Mv20.{Mv20}
-use Rattle.steps.specs.declared.InMv20.{InMv20}
 use Rattle.steps.specs.declared.Mv25.{Mv25}
-use Rattle.steps.specs.declared.InMv25.{InMv25}
 use Rattle.steps.specs.declared.Mv50.{Mv50}
-use Rattle.steps.specs.declared.InMv50.{InMv50}
 use Rattle.steps.specs.declared.Mv100.{Mv100}
-use Rattle.steps.specs.declared.InMv100.{InMv100}
 use Rattle.steps.specs.declared.Ma10.{Ma10}
-use Rattle.steps.specs.declared.InMa10.{InMa10}
 use Rattle.steps.specs.declared.Ma50.{Ma50}
-use Rattle.steps.specs.declared.InMa50.{InMa50}
 use Rattle.steps.specs.Ranges.{within}
 use Rattle.steps.specs.Measure.{converted_of, mv20_says, mv25_says, mv50_says, mv100_says, ma10_says, ma50_says}
 use Rattle.steps.proofs.ConversionLaws.{exactly_only, lost_only, given_or_refused}
@@ -62,46 +56,46 @@ converts n a b h said e = subst (Converts n a b) (sym e) (⊎_elim exact refused
     empty = λ z. refl;
   })
 
-pub mv20_to_mv25_refuses : (v : Mv20) (r : InMv25) → Mv20ToMv25Answers v r → Converts v.0 20 25 (mv25_says r)
+pub mv20_to_mv25_refuses : (v : Mv20) (r : Option Mv25) → Mv20ToMv25Answers v r → Converts v.0 20 25 (mv25_says r)
 mv20_to_mv25_refuses v r e = converts v.0 20 25 (omega arith) (mv25_says r) e
 
-pub mv20_to_mv50_refuses : (v : Mv20) (r : InMv50) → Mv20ToMv50Answers v r → Converts v.0 20 50 (mv50_says r)
+pub mv20_to_mv50_refuses : (v : Mv20) (r : Option Mv50) → Mv20ToMv50Answers v r → Converts v.0 20 50 (mv50_says r)
 mv20_to_mv50_refuses v r e = converts v.0 20 50 (omega arith) (mv50_says r) e
 
-pub mv20_to_mv100_refuses : (v : Mv20) (r : InMv100) → Mv20ToMv100Answers v r → Converts v.0 20 100 (mv100_says r)
+pub mv20_to_mv100_refuses : (v : Mv20) (r : Option Mv100) → Mv20ToMv100Answers v r → Converts v.0 20 100 (mv100_says r)
 mv20_to_mv100_refuses v r e = converts v.0 20 100 (omega arith) (mv100_says r) e
 
-pub mv25_to_mv20_refuses : (v : Mv25) (r : InMv20) → Mv25ToMv20Answers v r → Converts v.0 25 20 (mv20_says r)
+pub mv25_to_mv20_refuses : (v : Mv25) (r : Option Mv20) → Mv25ToMv20Answers v r → Converts v.0 25 20 (mv20_says r)
 mv25_to_mv20_refuses v r e = converts v.0 25 20 (omega arith) (mv20_says r) e
 
-pub mv25_to_mv50_refuses : (v : Mv25) (r : InMv50) → Mv25ToMv50Answers v r → Converts v.0 25 50 (mv50_says r)
+pub mv25_to_mv50_refuses : (v : Mv25) (r : Option Mv50) → Mv25ToMv50Answers v r → Converts v.0 25 50 (mv50_says r)
 mv25_to_mv50_refuses v r e = converts v.0 25 50 (omega arith) (mv50_says r) e
 
-pub mv25_to_mv100_refuses : (v : Mv25) (r : InMv100) → Mv25ToMv100Answers v r → Converts v.0 25 100 (mv100_says r)
+pub mv25_to_mv100_refuses : (v : Mv25) (r : Option Mv100) → Mv25ToMv100Answers v r → Converts v.0 25 100 (mv100_says r)
 mv25_to_mv100_refuses v r e = converts v.0 25 100 (omega arith) (mv100_says r) e
 
-pub mv50_to_mv20_refuses : (v : Mv50) (r : InMv20) → Mv50ToMv20Answers v r → Converts v.0 50 20 (mv20_says r)
+pub mv50_to_mv20_refuses : (v : Mv50) (r : Option Mv20) → Mv50ToMv20Answers v r → Converts v.0 50 20 (mv20_says r)
 mv50_to_mv20_refuses v r e = converts v.0 50 20 (omega arith) (mv20_says r) e
 
-pub mv50_to_mv25_refuses : (v : Mv50) (r : InMv25) → Mv50ToMv25Answers v r → Converts v.0 50 25 (mv25_says r)
+pub mv50_to_mv25_refuses : (v : Mv50) (r : Option Mv25) → Mv50ToMv25Answers v r → Converts v.0 50 25 (mv25_says r)
 mv50_to_mv25_refuses v r e = converts v.0 50 25 (omega arith) (mv25_says r) e
 
-pub mv50_to_mv100_refuses : (v : Mv50) (r : InMv100) → Mv50ToMv100Answers v r → Converts v.0 50 100 (mv100_says r)
+pub mv50_to_mv100_refuses : (v : Mv50) (r : Option Mv100) → Mv50ToMv100Answers v r → Converts v.0 50 100 (mv100_says r)
 mv50_to_mv100_refuses v r e = converts v.0 50 100 (omega arith) (mv100_says r) e
 
-pub mv100_to_mv20_refuses : (v : Mv100) (r : InMv20) → Mv100ToMv20Answers v r → Converts v.0 100 20 (mv20_says r)
+pub mv100_to_mv20_refuses : (v : Mv100) (r : Option Mv20) → Mv100ToMv20Answers v r → Converts v.0 100 20 (mv20_says r)
 mv100_to_mv20_refuses v r e = converts v.0 100 20 (omega arith) (mv20_says r) e
 
-pub mv100_to_mv25_refuses : (v : Mv100) (r : InMv25) → Mv100ToMv25Answers v r → Converts v.0 100 25 (mv25_says r)
+pub mv100_to_mv25_refuses : (v : Mv100) (r : Option Mv25) → Mv100ToMv25Answers v r → Converts v.0 100 25 (mv25_says r)
 mv100_to_mv25_refuses v r e = converts v.0 100 25 (omega arith) (mv25_says r) e
 
-pub mv100_to_mv50_refuses : (v : Mv100) (r : InMv50) → Mv100ToMv50Answers v r → Converts v.0 100 50 (mv50_says r)
+pub mv100_to_mv50_refuses : (v : Mv100) (r : Option Mv50) → Mv100ToMv50Answers v r → Converts v.0 100 50 (mv50_says r)
 mv100_to_mv50_refuses v r e = converts v.0 100 50 (omega arith) (mv50_says r) e
 
-pub ma10_to_ma50_refuses : (v : Ma10) (r : InMa50) → Ma10ToMa50Answers v r → Converts v.0 10 50 (ma50_says r)
+pub ma10_to_ma50_refuses : (v : Ma10) (r : Option Ma50) → Ma10ToMa50Answers v r → Converts v.0 10 50 (ma50_says r)
 ma10_to_ma50_refuses v r e = converts v.0 10 50 (omega arith) (ma50_says r) e
 
-pub ma50_to_ma10_refuses : (v : Ma50) (r : InMa10) → Ma50ToMa10Answers v r → Converts v.0 50 10 (ma10_says r)
+pub ma50_to_ma10_refuses : (v : Ma50) (r : Option Ma10) → Ma50ToMa10Answers v r → Converts v.0 50 10 (ma10_says r)
 ma50_to_ma10_refuses v r e = converts v.0 50 10 (omega arith) (ma10_says r) e
 
 pub conversions : Conversions

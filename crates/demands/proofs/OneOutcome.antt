@@ -11,6 +11,7 @@ use Rattle.steps.specs.declared.Mv100.{Mv100}
 use Rattle.steps.specs.declared.Ma10.{Ma10}
 use Rattle.objects.specs.declared.Side.{Side}
 use Rattle.objects.specs.declared.Object.{Object}
+use Rattle.demands.specs.CallContracts.{VerdictPlacelessAnswers, VerdictAtAnswers, VerdictPassedAnswers}
 use Rattle.demands.specs.CallContracts.{DecodeForAnswers, BadCountAnswers, ShapeForAnswers, ReadableAnswers, FinishedAnswers, RoundDownAnswers, RoundUpAnswers, RoundBothAnswers}
 use Rattle.demands.specs.CallContracts.{DecodeForAnswers, BadCountAnswers, ShapeForAnswers, ReadableAnswers, FinishedAnswers, Mv20ToMv25Answers, Mv20ToMv50Answers, Mv20ToMv100Answers, Mv25ToMv20Answers, Mv25ToMv50Answers, Mv25ToMv100Answers, Mv50ToMv20Answers, Mv50ToMv25Answers, Mv50ToMv100Answers, Mv100ToMv20Answers, Mv100ToMv25Answers, Mv100ToMv50Answers, Ma10ToMa50Answers, Ma50ToMa10Answers}
 use Rattle.demands.specs.CallContracts.{DecodeForAnswers, BadCountAnswers, ShapeForAnswers, ReadableAnswers, FinishedAnswers, IsKindAnswers, DecodeAnswers, ReservedAnswers, EncodeAnswers, FixedWordAnswers, PpsWordAnswers, AvsWordAnswers}
@@ -33,6 +34,17 @@ use Rattle.demands.specs.OneOutcome.{Settled, Both, NoSecondOutcome}
 -- Every contract here says that the answer, or what it says where it is an enum, equals a definition; what an enum says tells its cases apart.
 only : {R : Type 0} {x r s : R} → r ≡ x → s ≡ x → r ≡ s
 only e f = e ∙ sym f
+
+-- ---- verdicts
+
+pub verdict_placeless_settles : Settled VerdictPlacelessAnswers
+verdict_placeless_settles number r s e f = only e f
+
+pub verdict_at_settles : (number : ℕ) → Settled (VerdictAtAnswers number)
+verdict_at_settles number place r s e f = only e f
+
+pub verdict_passed_settles : Settled VerdictPassedAnswers
+verdict_passed_settles v r s e f = only e f
 
 -- ---- steps
 
@@ -232,6 +244,9 @@ arin_remaining_settles ys capacity r s e f = only e f
 
 pub no_second_outcome : NoSecondOutcome
 no_second_outcome = record {
+  verdict_placeless = verdict_placeless_settles;
+  verdict_at = verdict_at_settles;
+  verdict_passed = verdict_passed_settles;
   round_down = round_down_settles;
   round_up = round_up_settles;
   round_both = round_both_settles;

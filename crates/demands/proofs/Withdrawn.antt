@@ -126,6 +126,8 @@ flat_write_for_21 side f r e =
 
 pub never_21 : Never21
 never_21 = record {
+  placeless = λ number r e other z. other (sym (ap (λ (v : Verdict). v.number) e) ∙ z);
+  at = λ number place r e other z. other (sym (ap (λ (v : Verdict). v.number) e) ∙ z);
   decode = λ w r e. not_one (λ z. absurd (omega (arith, z))) (decode_12 w r e);
   decode_for = λ side w r e. not_one (λ z. absurd (omega (arith, z))) (decode_for_12 side w r e);
   encode = λ o r e. not_one (λ z. absurd (omega (arith, z))) (encode_7 o r e);

@@ -4,20 +4,17 @@
 -- lent rows, by the names that are their clauses (crates/board/specs/Promises.antt); where a claim is over a definition that a contract cites,
 -- the head of its file says so.
 -- Assumes nothing.
-use Rattle.std.specs.Prelude.{Bool, ℕ, Option}
+use Rattle.std.specs.Prelude.{Result, Bool, ℕ, Option}
 use Rattle.verdicts.specs.declared.Verdict.{Verdict}
 use Rattle.steps.specs.declared.Mv20.{Mv20}
-use Rattle.steps.specs.declared.InMv20.{InMv20}
 use Rattle.steps.specs.declared.Mv25.{Mv25}
-use Rattle.steps.specs.declared.InMv25.{InMv25}
 use Rattle.steps.specs.declared.Mv50.{Mv50}
-use Rattle.steps.specs.declared.InMv50.{InMv50}
 use Rattle.steps.specs.declared.Mv100.{Mv100}
-use Rattle.steps.specs.declared.InMv100.{InMv100}
 use Rattle.steps.specs.declared.Ma10.{Ma10}
-use Rattle.steps.specs.declared.InMa10.{InMa10}
 use Rattle.steps.specs.declared.Ma50.{Ma50}
-use Rattle.steps.specs.declared.InMa50.{InMa50}
+use Rattle.verdicts.proofs.Verdict.placeless.Reads as verdict_placeless
+use Rattle.verdicts.proofs.Verdict.at.Reads as verdict_at
+use Rattle.verdicts.proofs.Verdict.passed.Reads as verdict_passed
 use Rattle.steps.proofs.round_down.Reads as round_down
 use Rattle.steps.proofs.round_up.Reads as round_up
 use Rattle.steps.specs.declared.Roundings.{Roundings}
@@ -91,6 +88,17 @@ use Rattle.ports.proofs.remaining.Reads as remaining
 
 -- ---- steps
 
+-- ---- verdicts
+
+abbrev pub VerdictPlacelessAnswers : ℕ → Verdict → Type 0
+VerdictPlacelessAnswers number r = verdict_placeless.Post tt (number, tt) r (number, tt)
+
+abbrev pub VerdictAtAnswers : ℕ → ℕ → Verdict → Type 0
+VerdictAtAnswers number place r = verdict_at.Post tt (number, (place, tt)) r (number, (place, tt))
+
+abbrev pub VerdictPassedAnswers : Verdict → Result (Unit {0}) Verdict → Type 0
+VerdictPassedAnswers v r = verdict_passed.Post tt (v, tt) r (v, tt)
+
 abbrev pub RoundDownAnswers : ℕ → ℕ → ℕ → Type 0
 RoundDownAnswers numerator divisor r = round_down.Post tt (numerator, (divisor, tt)) r (numerator, (divisor, tt))
 
@@ -100,46 +108,46 @@ RoundUpAnswers numerator divisor r = round_up.Post tt (numerator, (divisor, tt))
 abbrev pub RoundBothAnswers : ℕ → ℕ → Roundings → Type 0
 RoundBothAnswers numerator divisor r = round_both.Post tt (numerator, (divisor, tt)) r (numerator, (divisor, tt))
 
-abbrev pub Mv20ToMv25Answers : Mv20 → InMv25 → Type 0
+abbrev pub Mv20ToMv25Answers : Mv20 → Option Mv25 → Type 0
 Mv20ToMv25Answers v r = mv20_to_mv25.Post tt (v, tt) r (v, tt)
 
-abbrev pub Mv20ToMv50Answers : Mv20 → InMv50 → Type 0
+abbrev pub Mv20ToMv50Answers : Mv20 → Option Mv50 → Type 0
 Mv20ToMv50Answers v r = mv20_to_mv50.Post tt (v, tt) r (v, tt)
 
-abbrev pub Mv20ToMv100Answers : Mv20 → InMv100 → Type 0
+abbrev pub Mv20ToMv100Answers : Mv20 → Option Mv100 → Type 0
 Mv20ToMv100Answers v r = mv20_to_mv100.Post tt (v, tt) r (v, tt)
 
-abbrev pub Mv25ToMv20Answers : Mv25 → InMv20 → Type 0
+abbrev pub Mv25ToMv20Answers : Mv25 → Option Mv20 → Type 0
 Mv25ToMv20Answers v r = mv25_to_mv20.Post tt (v, tt) r (v, tt)
 
-abbrev pub Mv25ToMv50Answers : Mv25 → InMv50 → Type 0
+abbrev pub Mv25ToMv50Answers : Mv25 → Option Mv50 → Type 0
 Mv25ToMv50Answers v r = mv25_to_mv50.Post tt (v, tt) r (v, tt)
 
-abbrev pub Mv25ToMv100Answers : Mv25 → InMv100 → Type 0
+abbrev pub Mv25ToMv100Answers : Mv25 → Option Mv100 → Type 0
 Mv25ToMv100Answers v r = mv25_to_mv100.Post tt (v, tt) r (v, tt)
 
-abbrev pub Mv50ToMv20Answers : Mv50 → InMv20 → Type 0
+abbrev pub Mv50ToMv20Answers : Mv50 → Option Mv20 → Type 0
 Mv50ToMv20Answers v r = mv50_to_mv20.Post tt (v, tt) r (v, tt)
 
-abbrev pub Mv50ToMv25Answers : Mv50 → InMv25 → Type 0
+abbrev pub Mv50ToMv25Answers : Mv50 → Option Mv25 → Type 0
 Mv50ToMv25Answers v r = mv50_to_mv25.Post tt (v, tt) r (v, tt)
 
-abbrev pub Mv50ToMv100Answers : Mv50 → InMv100 → Type 0
+abbrev pub Mv50ToMv100Answers : Mv50 → Option Mv100 → Type 0
 Mv50ToMv100Answers v r = mv50_to_mv100.Post tt (v, tt) r (v, tt)
 
-abbrev pub Mv100ToMv20Answers : Mv100 → InMv20 → Type 0
+abbrev pub Mv100ToMv20Answers : Mv100 → Option Mv20 → Type 0
 Mv100ToMv20Answers v r = mv100_to_mv20.Post tt (v, tt) r (v, tt)
 
-abbrev pub Mv100ToMv25Answers : Mv100 → InMv25 → Type 0
+abbrev pub Mv100ToMv25Answers : Mv100 → Option Mv25 → Type 0
 Mv100ToMv25Answers v r = mv100_to_mv25.Post tt (v, tt) r (v, tt)
 
-abbrev pub Mv100ToMv50Answers : Mv100 → InMv50 → Type 0
+abbrev pub Mv100ToMv50Answers : Mv100 → Option Mv50 → Type 0
 Mv100ToMv50Answers v r = mv100_to_mv50.Post tt (v, tt) r (v, tt)
 
-abbrev pub Ma10ToMa50Answers : Ma10 → InMa50 → Type 0
+abbrev pub Ma10ToMa50Answers : Ma10 → Option Ma50 → Type 0
 Ma10ToMa50Answers v r = ma10_to_ma50.Post tt (v, tt) r (v, tt)
 
-abbrev pub Ma50ToMa10Answers : Ma50 → InMa10 → Type 0
+abbrev pub Ma50ToMa10Answers : Ma50 → Option Ma10 → Type 0
 Ma50ToMa10Answers v r = ma50_to_ma10.Post tt (v, tt) r (v, tt)
 
 -- ---- objects

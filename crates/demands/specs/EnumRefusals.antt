@@ -4,17 +4,11 @@
 -- Assumes nothing.
 use Rattle.std.specs.Prelude.{◌≡◌, Bool, true, false, ◌↔◌, ◌⊎◌, ℕ, ◌*◌, ◌<◌, Option}
 use Rattle.steps.specs.declared.Mv20.{Mv20}
-use Rattle.steps.specs.declared.InMv20.{InMv20}
 use Rattle.steps.specs.declared.Mv25.{Mv25}
-use Rattle.steps.specs.declared.InMv25.{InMv25}
 use Rattle.steps.specs.declared.Mv50.{Mv50}
-use Rattle.steps.specs.declared.InMv50.{InMv50}
 use Rattle.steps.specs.declared.Mv100.{Mv100}
-use Rattle.steps.specs.declared.InMv100.{InMv100}
 use Rattle.steps.specs.declared.Ma10.{Ma10}
-use Rattle.steps.specs.declared.InMa10.{InMa10}
 use Rattle.steps.specs.declared.Ma50.{Ma50}
-use Rattle.steps.specs.declared.InMa50.{InMa50}
 use Rattle.steps.specs.Ranges.{within}
 use Rattle.steps.specs.Measure.{mv20_says, mv25_says, mv50_says, mv100_says, ma10_says, ma50_says}
 use Rattle.objects.specs.declared.Side.{Side}
@@ -44,20 +38,20 @@ pub record Converts (figure from to : ℕ) (said : Bool × ℕ) : Type 0 where
 
 -- for each of the conversions, whatever its contract allows; the theorem of one is `mv20_to_mv25_refuses` and so on
 pub record Conversions : Type 0 where
-  pub mv20_to_mv25 : (v : Mv20) (r : InMv25) → Mv20ToMv25Answers v r → Converts v.0 20 25 (mv25_says r)
-  pub mv20_to_mv50 : (v : Mv20) (r : InMv50) → Mv20ToMv50Answers v r → Converts v.0 20 50 (mv50_says r)
-  pub mv20_to_mv100 : (v : Mv20) (r : InMv100) → Mv20ToMv100Answers v r → Converts v.0 20 100 (mv100_says r)
-  pub mv25_to_mv20 : (v : Mv25) (r : InMv20) → Mv25ToMv20Answers v r → Converts v.0 25 20 (mv20_says r)
-  pub mv25_to_mv50 : (v : Mv25) (r : InMv50) → Mv25ToMv50Answers v r → Converts v.0 25 50 (mv50_says r)
-  pub mv25_to_mv100 : (v : Mv25) (r : InMv100) → Mv25ToMv100Answers v r → Converts v.0 25 100 (mv100_says r)
-  pub mv50_to_mv20 : (v : Mv50) (r : InMv20) → Mv50ToMv20Answers v r → Converts v.0 50 20 (mv20_says r)
-  pub mv50_to_mv25 : (v : Mv50) (r : InMv25) → Mv50ToMv25Answers v r → Converts v.0 50 25 (mv25_says r)
-  pub mv50_to_mv100 : (v : Mv50) (r : InMv100) → Mv50ToMv100Answers v r → Converts v.0 50 100 (mv100_says r)
-  pub mv100_to_mv20 : (v : Mv100) (r : InMv20) → Mv100ToMv20Answers v r → Converts v.0 100 20 (mv20_says r)
-  pub mv100_to_mv25 : (v : Mv100) (r : InMv25) → Mv100ToMv25Answers v r → Converts v.0 100 25 (mv25_says r)
-  pub mv100_to_mv50 : (v : Mv100) (r : InMv50) → Mv100ToMv50Answers v r → Converts v.0 100 50 (mv50_says r)
-  pub ma10_to_ma50 : (v : Ma10) (r : InMa50) → Ma10ToMa50Answers v r → Converts v.0 10 50 (ma50_says r)
-  pub ma50_to_ma10 : (v : Ma50) (r : InMa10) → Ma50ToMa10Answers v r → Converts v.0 50 10 (ma10_says r)
+  pub mv20_to_mv25 : (v : Mv20) (r : Option Mv25) → Mv20ToMv25Answers v r → Converts v.0 20 25 (mv25_says r)
+  pub mv20_to_mv50 : (v : Mv20) (r : Option Mv50) → Mv20ToMv50Answers v r → Converts v.0 20 50 (mv50_says r)
+  pub mv20_to_mv100 : (v : Mv20) (r : Option Mv100) → Mv20ToMv100Answers v r → Converts v.0 20 100 (mv100_says r)
+  pub mv25_to_mv20 : (v : Mv25) (r : Option Mv20) → Mv25ToMv20Answers v r → Converts v.0 25 20 (mv20_says r)
+  pub mv25_to_mv50 : (v : Mv25) (r : Option Mv50) → Mv25ToMv50Answers v r → Converts v.0 25 50 (mv50_says r)
+  pub mv25_to_mv100 : (v : Mv25) (r : Option Mv100) → Mv25ToMv100Answers v r → Converts v.0 25 100 (mv100_says r)
+  pub mv50_to_mv20 : (v : Mv50) (r : Option Mv20) → Mv50ToMv20Answers v r → Converts v.0 50 20 (mv20_says r)
+  pub mv50_to_mv25 : (v : Mv50) (r : Option Mv25) → Mv50ToMv25Answers v r → Converts v.0 50 25 (mv25_says r)
+  pub mv50_to_mv100 : (v : Mv50) (r : Option Mv100) → Mv50ToMv100Answers v r → Converts v.0 50 100 (mv100_says r)
+  pub mv100_to_mv20 : (v : Mv100) (r : Option Mv20) → Mv100ToMv20Answers v r → Converts v.0 100 20 (mv20_says r)
+  pub mv100_to_mv25 : (v : Mv100) (r : Option Mv25) → Mv100ToMv25Answers v r → Converts v.0 100 25 (mv25_says r)
+  pub mv100_to_mv50 : (v : Mv100) (r : Option Mv50) → Mv100ToMv50Answers v r → Converts v.0 100 50 (mv50_says r)
+  pub ma10_to_ma50 : (v : Ma10) (r : Option Ma50) → Ma10ToMa50Answers v r → Converts v.0 10 50 (ma50_says r)
+  pub ma50_to_ma10 : (v : Ma50) (r : Option Ma10) → Ma50ToMa10Answers v r → Converts v.0 50 10 (ma10_says r)
 
 -- ---- one number
 

@@ -17,6 +17,7 @@ use Rattle.rules.specs.declared.Profile.{Profile}
 use Rattle.ports.specs.declared.Row.{Row}
 use Rattle.ports.specs.declared.Standing.{Standing}
 use Rattle.board.specs.Promises.{SharesSetUp, SharesAttach, SharesAdvertise, SharesRequest, SharesDetach, SharesRemaining}
+use Rattle.demands.specs.CallContracts.{VerdictPlacelessAnswers, VerdictAtAnswers, VerdictPassedAnswers}
 use Rattle.demands.specs.CallContracts.{DecodeForAnswers, BadCountAnswers, ShapeForAnswers, ReadableAnswers, FinishedAnswers, RoundDownAnswers, RoundUpAnswers, RoundBothAnswers}
 use Rattle.demands.specs.CallContracts.{DecodeForAnswers, BadCountAnswers, ShapeForAnswers, ReadableAnswers, FinishedAnswers, Mv20ToMv25Answers, Mv20ToMv50Answers, Mv20ToMv100Answers, Mv25ToMv20Answers, Mv25ToMv50Answers, Mv25ToMv100Answers, Mv50ToMv20Answers, Mv50ToMv25Answers, Mv50ToMv100Answers, Mv100ToMv20Answers, Mv100ToMv25Answers, Mv100ToMv50Answers, Ma10ToMa50Answers, Ma50ToMa10Answers}
 use Rattle.demands.specs.CallContracts.{DecodeForAnswers, BadCountAnswers, ShapeForAnswers, ReadableAnswers, FinishedAnswers, IsKindAnswers, DecodeAnswers, ReservedAnswers, EncodeAnswers, FixedWordAnswers, PpsWordAnswers, AvsWordAnswers}
@@ -35,6 +36,10 @@ abbrev pub Both : (R : Type 0) → (R → List Row → Type 0) → Type 0
 Both R allows = (r s : R) (zs us : List Row) → allows r zs → allows s us → (r ≡ s) × (zs ≡ us)
 
 pub record NoSecondOutcome : Type 0 where
+  -- verdicts
+  pub verdict_placeless : Settled VerdictPlacelessAnswers
+  pub verdict_at : (number : ℕ) → Settled (VerdictAtAnswers number)
+  pub verdict_passed : Settled VerdictPassedAnswers
   -- steps
   pub round_down : (numerator : ℕ) → Settled (RoundDownAnswers numerator)
   pub round_up : (numerator : ℕ) → Settled (RoundUpAnswers numerator)

@@ -46,6 +46,7 @@ use Rattle.flat.specs.declared.FlatTaken.{FlatTaken}
 use Rattle.messages.specs.Promises.{TakesMessage, ReadsMessage, WritesMessage}
 use Rattle.board.specs.MessagePromises.{ArinTakesMessage, ArinReadsMessage, ArinWritesMessage}
 use Rattle.board.specs.Promises.{SharesSetUp, SharesAttach, SharesAdvertise, SharesRequest, SharesDetach, SharesRemaining}
+use Rattle.demands.specs.CallContracts.{VerdictPlacelessAnswers, VerdictAtAnswers}
 use Rattle.demands.specs.CallContracts.{DecodeForAnswers, ShapeForAnswers, ReadableAnswers, FinishedAnswers, DecodeAnswers, EncodeAnswers, FixedWordAnswers, PpsWordAnswers, AvsWordAnswers}
 use Rattle.demands.specs.CallContracts.{ShapeAnswers, ReadAnswers, RefuseAnswers, WriteAnswers}
 use Rattle.demands.specs.CallContracts.{DefaultAnswers, BuildAnswers, CheckAnswers, WordAtAnswers}
@@ -60,6 +61,9 @@ abbrev pub Not21 : ℕ → Type 0
 Not21 n = n ≡ 21 → ⊥
 
 pub record Never21 : Type 0 where
+  -- verdicts, which give the number that they are handed
+  pub placeless : (number : ℕ) (r : Verdict) → VerdictPlacelessAnswers number r → Not21 number → Not21 r.number
+  pub at : (number place : ℕ) (r : Verdict) → VerdictAtAnswers number place r → Not21 number → Not21 r.number
   -- objects
   pub decode : (w : ℕ) (r : Option Object) → DecodeAnswers w r → Not21 (decoded_says r).0
   pub decode_for : (side : Side) (w : ℕ) (r : Option Object) → DecodeForAnswers side w r → Not21 (decoded_says r).0

@@ -17,6 +17,7 @@ use crate::refusing::{attach_fault, use_fault};
 use crate::soundness::verdict_at;
 use crate::{Change, NO_ROW, RemainingPower, Row, Standing, emptied};
 use lists::Listing;
+use objects::Object;
 use rules::Profile;
 use steps::{HalfWatts, Ma10};
 use verdicts::Verdict;

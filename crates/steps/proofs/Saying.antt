@@ -1,82 +1,46 @@
 -- What an answer says tells the answers apart: so a promise of what the answer says allows one answer only.
 -- Assumes nothing.
+use Rattle.std.specs.Prelude.{Option, Some, None}
 use mathlib.Core.Path.{◌≡◌, refl, sym, ap, ◌∙◌}
 use mathlib.Core.Bool.{Bool, true, false}
 use Prim.Native.Nat.{ℕ}
-use Rattle.steps.specs.Measure.{mv20_says, mv25_says, mv50_says, mv100_says, ma10_says, ma50_says}
-use Rattle.steps.specs.declared.InMv20.{InMv20}
-use Rattle.steps.specs.declared.InMv20.TheVariants as mv20
-use Rattle.steps.specs.declared.InMv25.{InMv25}
-use Rattle.steps.specs.declared.InMv25.TheVariants as mv25
-use Rattle.steps.specs.declared.InMv50.{InMv50}
-use Rattle.steps.specs.declared.InMv50.TheVariants as mv50
-use Rattle.steps.specs.declared.InMv100.{InMv100}
-use Rattle.steps.specs.declared.InMv100.TheVariants as mv100
-use Rattle.steps.specs.declared.InMa10.{InMa10}
-use Rattle.steps.specs.declared.InMa10.TheVariants as ma10
-use Rattle.steps.specs.declared.InMa50.{InMa50}
-use Rattle.steps.specs.declared.InMa50.TheVariants as ma50
+use Rattle.steps.specs.Measure.{says, mv20_says, mv25_says, mv50_says, mv100_says, ma10_says, ma50_says}
+use Rattle.steps.specs.declared.Mv20.{Mv20}
+use Rattle.steps.specs.declared.Mv25.{Mv25}
+use Rattle.steps.specs.declared.Mv50.{Mv50}
+use Rattle.steps.specs.declared.Mv100.{Mv100}
+use Rattle.steps.specs.declared.Ma10.{Ma10}
+use Rattle.steps.specs.declared.Ma50.{Ma50}
 
 -- an answer that can be had back from what it says is the only one that says so
 pub one_answer : {A B : Type 0} (says : A → B) (back : B → A) → ((r : A) → back (says r) ≡ r) → (r s : A) → says r ≡ says s → r ≡ s
 one_answer says back same r s e = sym (same r) ∙ ap back e ∙ same s
 
-pub mv20_one : (r s : InMv20) → mv20_says r ≡ mv20_says s → r ≡ s
-mv20_one = one_answer mv20_says back same where
-  back : Bool × ℕ → InMv20
-  back (false, m) = mv20.Exact (record { 0 = m })
-  back (true, m) = mv20.Refused
+-- so it is with the answer in a step, which is the number that it counts
+pub says_one : {A : Type 0} (count : A → ℕ) (of : ℕ → A) → ((v : A) → of (count v) ≡ v) → (r s : Option A) → says count r ≡ says count s → r ≡ s
+says_one {A} count of made = one_answer (says count) back same where
+  back : Bool × ℕ → Option A
+  back (false, m) = Some (of m)
+  back (true, m) = None
 
-  same : (r : InMv20) → back (mv20_says r) ≡ r
-  same (mv20.Exact v) = refl
-  same mv20.Refused = refl
+  same : (r : Option A) → back (says count r) ≡ r
+  same (Some v) = ap Some (made v)
+  same None = refl
 
-pub mv25_one : (r s : InMv25) → mv25_says r ≡ mv25_says s → r ≡ s
-mv25_one = one_answer mv25_says back same where
-  back : Bool × ℕ → InMv25
-  back (false, m) = mv25.Exact (record { 0 = m })
-  back (true, m) = mv25.Refused
+pub mv20_one : (r s : Option Mv20) → mv20_says r ≡ mv20_says s → r ≡ s
+mv20_one = says_one (λ (v : Mv20). v.0) (λ m. record { 0 = m }) (λ v. refl)
 
-  same : (r : InMv25) → back (mv25_says r) ≡ r
-  same (mv25.Exact v) = refl
-  same mv25.Refused = refl
+pub mv25_one : (r s : Option Mv25) → mv25_says r ≡ mv25_says s → r ≡ s
+mv25_one = says_one (λ (v : Mv25). v.0) (λ m. record { 0 = m }) (λ v. refl)
 
-pub mv50_one : (r s : InMv50) → mv50_says r ≡ mv50_says s → r ≡ s
-mv50_one = one_answer mv50_says back same where
-  back : Bool × ℕ → InMv50
-  back (false, m) = mv50.Exact (record { 0 = m })
-  back (true, m) = mv50.Refused
+pub mv50_one : (r s : Option Mv50) → mv50_says r ≡ mv50_says s → r ≡ s
+mv50_one = says_one (λ (v : Mv50). v.0) (λ m. record { 0 = m }) (λ v. refl)
 
-  same : (r : InMv50) → back (mv50_says r) ≡ r
-  same (mv50.Exact v) = refl
-  same mv50.Refused = refl
+pub mv100_one : (r s : Option Mv100) → mv100_says r ≡ mv100_says s → r ≡ s
+mv100_one = says_one (λ (v : Mv100). v.0) (λ m. record { 0 = m }) (λ v. refl)
 
-pub mv100_one : (r s : InMv100) → mv100_says r ≡ mv100_says s → r ≡ s
-mv100_one = one_answer mv100_says back same where
-  back : Bool × ℕ → InMv100
-  back (false, m) = mv100.Exact (record { 0 = m })
-  back (true, m) = mv100.Refused
+pub ma10_one : (r s : Option Ma10) → ma10_says r ≡ ma10_says s → r ≡ s
+ma10_one = says_one (λ (v : Ma10). v.0) (λ m. record { 0 = m }) (λ v. refl)
 
-  same : (r : InMv100) → back (mv100_says r) ≡ r
-  same (mv100.Exact v) = refl
-  same mv100.Refused = refl
-
-pub ma10_one : (r s : InMa10) → ma10_says r ≡ ma10_says s → r ≡ s
-ma10_one = one_answer ma10_says back same where
-  back : Bool × ℕ → InMa10
-  back (false, m) = ma10.Exact (record { 0 = m })
-  back (true, m) = ma10.Refused
-
-  same : (r : InMa10) → back (ma10_says r) ≡ r
-  same (ma10.Exact v) = refl
-  same ma10.Refused = refl
-
-pub ma50_one : (r s : InMa50) → ma50_says r ≡ ma50_says s → r ≡ s
-ma50_one = one_answer ma50_says back same where
-  back : Bool × ℕ → InMa50
-  back (false, m) = ma50.Exact (record { 0 = m })
-  back (true, m) = ma50.Refused
-
-  same : (r : InMa50) → back (ma50_says r) ≡ r
-  same (ma50.Exact v) = refl
-  same ma50.Refused = refl
+pub ma50_one : (r s : Option Ma50) → ma50_says r ≡ ma50_says s → r ≡ s
+ma50_one = says_one (λ (v : Ma50). v.0) (λ m. record { 0 = m }) (λ v. refl)

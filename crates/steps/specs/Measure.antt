@@ -1,21 +1,13 @@
 -- A figure in one step of measure, given in another (STATEMENT, "Steps of measure").
 -- Assumes nothing.
-use Rattle.std.specs.Prelude.{Bool, true, false, ◌&&◌, ℕ, ◌*◌, ltb, eqb}
+use Rattle.std.specs.Prelude.{Option, Some, None, Bool, true, false, ◌&&◌, ℕ, ◌*◌, ltb, eqb}
 use Rattle.steps.specs.Rounding.{down_of}
-use Rattle.steps.specs.declared.scaling.Scaled.{Scaled}
-use Rattle.steps.specs.declared.scaling.Scaled.TheVariants.{Exactly, Lost}
-use Rattle.steps.specs.declared.InMv20.{InMv20}
-use Rattle.steps.specs.declared.InMv20.TheVariants as mv20
-use Rattle.steps.specs.declared.InMv25.{InMv25}
-use Rattle.steps.specs.declared.InMv25.TheVariants as mv25
-use Rattle.steps.specs.declared.InMv50.{InMv50}
-use Rattle.steps.specs.declared.InMv50.TheVariants as mv50
-use Rattle.steps.specs.declared.InMv100.{InMv100}
-use Rattle.steps.specs.declared.InMv100.TheVariants as mv100
-use Rattle.steps.specs.declared.InMa10.{InMa10}
-use Rattle.steps.specs.declared.InMa10.TheVariants as ma10
-use Rattle.steps.specs.declared.InMa50.{InMa50}
-use Rattle.steps.specs.declared.InMa50.TheVariants as ma50
+use Rattle.steps.specs.declared.Mv20.{Mv20}
+use Rattle.steps.specs.declared.Mv25.{Mv25}
+use Rattle.steps.specs.declared.Mv50.{Mv50}
+use Rattle.steps.specs.declared.Mv100.{Mv100}
+use Rattle.steps.specs.declared.Ma10.{Ma10}
+use Rattle.steps.specs.declared.Ma50.{Ma50}
 
 -- ---- what is to be answered
 
@@ -36,32 +28,29 @@ count_of measure step = or_refused (stands measure step (down_of measure step)) 
 unfoldable pub converted_of : ℕ → ℕ → ℕ → Bool × ℕ
 converted_of figure from to = count_of (figure * from) to
 
--- ---- what each answer says: "Each step has a type of its own", and so has the answer in it
+-- ---- what each answer says, by the number that it counts: "Each step has a type of its own", and so has the answer in it
 
-abbrev pub scaled_says : Scaled → Bool × ℕ
-scaled_says (Exactly m) = (false, m)
-scaled_says Lost = (true, 0)
+abbrev pub says : {A : Type 0} → (A → ℕ) → Option A → Bool × ℕ
+says count (Some v) = (false, count v)
+says count None = (true, 0)
 
-abbrev pub mv20_says : InMv20 → Bool × ℕ
-mv20_says (mv20.Exact v) = (false, v.0)
-mv20_says mv20.Refused = (true, 0)
+abbrev pub scaled_says : Option ℕ → Bool × ℕ
+scaled_says r = says (λ (m : ℕ). m) r
 
-abbrev pub mv25_says : InMv25 → Bool × ℕ
-mv25_says (mv25.Exact v) = (false, v.0)
-mv25_says mv25.Refused = (true, 0)
+abbrev pub mv20_says : Option Mv20 → Bool × ℕ
+mv20_says r = says (λ (v : Mv20). v.0) r
 
-abbrev pub mv50_says : InMv50 → Bool × ℕ
-mv50_says (mv50.Exact v) = (false, v.0)
-mv50_says mv50.Refused = (true, 0)
+abbrev pub mv25_says : Option Mv25 → Bool × ℕ
+mv25_says r = says (λ (v : Mv25). v.0) r
 
-abbrev pub mv100_says : InMv100 → Bool × ℕ
-mv100_says (mv100.Exact v) = (false, v.0)
-mv100_says mv100.Refused = (true, 0)
+abbrev pub mv50_says : Option Mv50 → Bool × ℕ
+mv50_says r = says (λ (v : Mv50). v.0) r
 
-abbrev pub ma10_says : InMa10 → Bool × ℕ
-ma10_says (ma10.Exact v) = (false, v.0)
-ma10_says ma10.Refused = (true, 0)
+abbrev pub mv100_says : Option Mv100 → Bool × ℕ
+mv100_says r = says (λ (v : Mv100). v.0) r
 
-abbrev pub ma50_says : InMa50 → Bool × ℕ
-ma50_says (ma50.Exact v) = (false, v.0)
-ma50_says ma50.Refused = (true, 0)
+abbrev pub ma10_says : Option Ma10 → Bool × ℕ
+ma10_says r = says (λ (v : Ma10). v.0) r
+
+abbrev pub ma50_says : Option Ma50 → Bool × ℕ
+ma50_says r = says (λ (v : Ma50). v.0) r

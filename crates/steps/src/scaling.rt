@@ -2,24 +2,18 @@
 ghost use Rattle.std.specs.Prelude.{◌≤◌, ◌<◌};
 ghost use Rattle.steps.specs.Promises.{Rescaled};
 
-#[derive(Clone, Copy)]
-pub(crate) enum Scaled {
-    Exactly(u16),
-    Lost,
-}
-
-// The largest step is 100, so the measure fits 32 bits.
-pub(crate) fn rescale(figure: u16, from: u32, to: u32) -> Scaled
+// None where no whole figure of 16 bits gives it. The largest step is 100, so the measure fits 32 bits.
+pub(crate) fn rescale(figure: u16, from: u32, to: u32) -> Option<u16>
     requires { (from ≤ 100) × (0 < to) }
     ensures { Rescaled figure from to result }
 {
     let measure = (figure as u32) * from;
     if measure % to != 0 {
-        return Scaled::Lost;
+        return None;
     }
     let count = measure / to;
     if 65536 <= count {
-        return Scaled::Lost;
+        return None;
     }
-    Scaled::Exactly(count as u16)
+    Some(count as u16)
 }
