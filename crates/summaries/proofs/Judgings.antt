@@ -53,6 +53,10 @@ module _ (ls : List ℕ) where
       unfolding first_of
       both_within h = rw (le-leb (o.0 * 10) (below_in ls) within, le-leb (x.0 * 10) (below_in ls) h)
 
+    pub variable_as_fixed : judged_by ls mismatch (Fixed o x) ≡ judged_by ls mismatch (Variable o x)
+    unfolding judged_by
+    variable_as_fixed = refl
+
   -- ---- a voltage in mV and a current in mA: whatever the refusals make, and whatever the answer is where there is none
 
   module _ {A : Type 0} (refused : ℕ → ℕ → A) (answer : A) (mv ma : ℕ) where
@@ -102,6 +106,15 @@ module _ (ls : List ℕ) where
         rw (whole_100 v.0 e, no_maximum (limit_for ls (Avs v a)) mismatch) (without_last refused answer (range_refusals ls (mv25 v) (ma50 a)) 25 0)
 
   -- of the verdict
+  pub pps_by_range : (v : Mv20) (a : Ma50) (mismatch : Bool) → range_by ls (mv20 v) (ma50 a) ≡ judged_by ls mismatch (Pps v a)
+  unfolding range_by judged_by
+  pps_by_range v a mismatch = pps_as verdict success a mismatch v
+
   pub avs_by_range : (v : Mv25) (a : Ma50) (mismatch : Bool) → v.0 % 4 ≡ 0 → range_by ls (mv25 v) (ma50 a) ≡ judged_by ls mismatch (Avs v a)
   unfolding range_by judged_by
   avs_by_range v a mismatch e = avs_as verdict success a mismatch v e
+
+  -- bit 26 is not looked at
+  pub avs_either_way : (v : Mv25) (a : Ma50) (mismatch : Bool) → judged_by ls false (Avs v a) ≡ judged_by ls mismatch (Avs v a)
+  unfolding judged_by first_of
+  avs_either_way v a mismatch = rw (no_maximum (limit_for ls (Avs v a)) false, no_maximum (limit_for ls (Avs v a)) mismatch)

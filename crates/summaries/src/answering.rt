@@ -8,6 +8,7 @@ ghost use Rattle.summaries.specs.declared.QuickRequest.TheVariants.{Fixed};
 ghost use Rattle.summaries.specs.Answering.{limits_in_row, row_with, row_refusals, range_refusals, summary_refusals};
 ghost use Rattle.summaries.specs.Promises.{AnswersSummary};
 
+use crate::holding::row_at;
 use crate::{ABOVE_15_V, BELOW_15_V, HIGHEST, LOWEST, QuickAsked, QuickRequest, Summary};
 use std::cmp::Ordering;
 use steps::{Ma10, Ma50, Mv20, Mv25};
@@ -148,7 +149,7 @@ fn answered(summary: Summary, asked: QuickAsked) -> Result<(), Verdict>
     if named < 1 || summary.count < named {
         return Err(Verdict::placeless(verdicts::POSITION));
     }
-    let limits = Limits::from(summary.rows[(named - 1) as usize]);
+    let limits = Limits::from(row_at(summary, (named - 1) as usize));
     limits.judge(asked.mismatch, asked.request)
 }
 

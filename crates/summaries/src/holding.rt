@@ -1,4 +1,5 @@
-// What C reads of a summary.
+// What is taken out of a summary.
+ghost use Rattle.std.specs.Prelude.{◌≡◌, [], ◌<◌, get_or};
 ghost use Rattle.summaries.specs.Promises.{HasRows};
 
 use crate::Summary;
@@ -8,4 +9,12 @@ pub fn rows_of(summary: Summary) -> [[u16; 4]; 7]
     ensures { HasRows summary result }
 {
     summary.rows
+}
+
+// One of the seven rows. A call of its own, since in the midst of its caller it would be read from a copy of all seven.
+pub(crate) fn row_at(summary: Summary, at: usize) -> [u16; 4]
+    requires { at < 7 }
+    ensures { result ≡ get_or summary.rows at [] }
+{
+    summary.rows[at]
 }

@@ -5,7 +5,7 @@ use mathlib.Core.Path.{sym, ap, ◌∙◌}
 use Rattle.verdicts.specs.Refusals.{err, passed_by}
 use Rattle.requests.proofs.Answers.{position_zero, position_past, position_good}
 use Rattle.summaries.specs.declared.answering.Limits.{Limits}
-use Rattle.summaries.specs.Answering.{row_with, row_of, row_refusals}
+use Rattle.summaries.specs.Answering.{limits_in_row, row_with, row_of, row_refusals}
 use Rattle.summaries.proofs.Judgings.{by_limits}
 use Rattle.summaries.proofs.Answers.{too_many_rows_as, misplaced_as, by_row_as}
 use Rattle.summaries.proofs.answering.answered.Goals as goal
@@ -30,6 +30,6 @@ returns c =
     let x = c.args in
     let good = position_good _ _ c.if-named-lt1.false c.if-summary-named.false in
     c.judge.ensures
-    ∙ ap (λ (l : Limits). passed_by (row_refusals (row_with l) x.asked.mismatch x.asked.request)) c.from-limits.ensures
+    ∙ ap (λ (l : Limits). passed_by (row_refusals (row_with l) x.asked.mismatch x.asked.request)) (c.from-limits.ensures ∙ ap limits_in_row c.row_at.ensures)
     ∙ by_limits (row_of x.summary x.asked.position) x.asked.mismatch x.asked.request
     ∙ sym (by_row_as x.summary x.asked err (Ok tt) c.if-summary-gt7.false good)
