@@ -1,1 +1,4 @@
-pub mod Keeping
+pub mod Adding
+pub mod Printing
+pub mod Reading
+pub mod Turns

@@ -7,6 +7,8 @@ pub(crate) enum Failure {
     Unwritable,
     // The lines that were complete at a failed read could not be written either.
     Neither,
+    // There were more reads than any run makes. Nothing is said.
+    Endless,
 }
 
 const UNREADABLE: &str = "caps: standard input cannot be read\n";
@@ -22,6 +24,7 @@ impl fmt::Display for Failure {
                 f.write_str(UNWRITABLE)?;
                 f.write_str(UNREADABLE)
             }
+            Failure::Endless => Ok(()),
         }
     }
 }

@@ -1,25 +1,32 @@
 // Standard input to standard output.
+ghost use Rattle.std.specs.Prelude.{◌≡◌, ◌*◌, ◌/◌, ◌<◌, length, drop, OnOk};
+ghost use Rattle.std.specs.Io.KnownBytes.{Keeps, Appends};
+ghost use Rattle.printed.specs.Printed.{record_lines, end_line};
+ghost use Rattle.caps.specs.Printing.{Adds, made, unlisted, output_of};
+
 use crate::failure::Failure;
 use crate::input::Input;
 use crate::output::Output;
 use std::io::{Read, Write};
 
 // The whole records that are held.
-fn list_held<R: Read, W: Write>(
-    input: &mut Input<R>,
-    output: &mut Output<W>,
-) -> Result<(), Failure> {
+fn list_held<R: Read, W: Write>(input: &mut Input<R>, output: &mut Output<W>) -> Result<(), Failure>
+    ensures lines { OnOk result (Adds output.old output.new (record_lines input.old.held (length input.old.held / 8))) }
+    ensures rest { OnOk result (input.new ≡ record input.old { held = drop (length input.old.held / 8 * 8) input.old.held }) }
+{
     let (records, _) = input.records();
-    for record in records {
+    for bytes in records {
         output.make_room()?;
-        output.put_record(record);
+        output.put_record(bytes);
     }
     input.keep_unfinished();
     Ok(())
 }
 
 // The end of the input.
-fn finish<W: Write>(left: usize, output: &mut Output<W>) -> Result<(), Failure> {
+fn finish<W: Write>(left: usize, output: &mut Output<W>) -> Result<(), Failure>
+    ensures { OnOk result (Appends (made output.old) output.new.written (end_line left)) }
+{
     output.make_room()?;
     output.put_end(left);
     output.flush()
@@ -29,7 +36,10 @@ fn finish<W: Write>(left: usize, output: &mut Output<W>) -> Result<(), Failure> 
 pub(crate) fn list_all<R: Read, W: Write>(
     input: &mut Input<R>,
     output: &mut Output<W>,
-) -> Result<(), Failure> {
+) -> Result<(), Failure>
+    requires { length input.old.held < 8 }
+    ensures { OnOk result (Keeps (output_of (made output.old) (unlisted input.old)) output.new.written) }
+{
     for _ in 0..u64::MAX {
         // An error ends the program once the lines that are complete are written.
         let Ok(got) = input.read() else {
@@ -44,5 +54,5 @@ pub(crate) fn list_all<R: Read, W: Write>(
         }
         list_held(input, output)?;
     }
-    Ok(())
+    Err(Failure::Endless)
 }

@@ -12,6 +12,9 @@ use input::Input;
 use output::Output;
 use std::io;
 
+// Of each block, the input's and the output's. std's BufReader and BufWriter take an allocator, and this program has no heap.
+pub const BLOCK: usize = 65536;
+
 // The program ends with status 0 whatever happened, so it says here what it could not do.
 fn main(rt: HostRuntime) {
     let mut input = Input::new(rt.reader());
