@@ -37,3 +37,7 @@ abbrev pub output_of : Option (List ℕ) → Option (List ℕ) → Option (List 
 output_of (Some made) (Some rest) = Some (made ++ printed_of rest)
 output_of (Some made) None = None
 output_of None rest = None
+
+-- what waited and the lines of all the input are written
+abbrev pub PrintsAll : Lines → Bytes → Lines → Type 0
+PrintsAll before input after = Keeps (output_of (made before) (unlisted input)) after.written

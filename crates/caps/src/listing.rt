@@ -1,8 +1,8 @@
 // Standard input to standard output.
 ghost use Rattle.std.specs.Prelude.{◌≡◌, ◌*◌, ◌/◌, ◌<◌, length, drop, OnOk};
-ghost use Rattle.std.specs.Io.KnownBytes.{Keeps, Appends};
+ghost use Rattle.std.specs.Io.KnownBytes.{Appends};
 ghost use Rattle.printed.specs.Printed.{record_lines, end_line};
-ghost use Rattle.caps.specs.Printing.{Adds, made, unlisted, output_of};
+ghost use Rattle.caps.specs.Printing.{Adds, PrintsAll, made};
 
 use crate::failure::Failure;
 use crate::input::Input;
@@ -32,13 +32,14 @@ fn finish<W: Write>(left: usize, output: &mut Output<W>) -> Result<(), Failure>
     output.flush()
 }
 
-// A proved loop has to end, and nothing says that the input does. So it has more turns than any run uses up.
+// All of the input, where nothing fails. A proved loop has to end, and nothing says that the input does. So it has more turns
+// than any run uses up.
 pub(crate) fn list_all<R: Read, W: Write>(
     input: &mut Input<R>,
     output: &mut Output<W>,
 ) -> Result<(), Failure>
     requires { length input.old.held < 8 }
-    ensures { OnOk result (Keeps (output_of (made output.old) (unlisted input.old)) output.new.written) }
+    ensures { OnOk result (PrintsAll output.old input.old output.new) }
 {
     for _ in 0..u64::MAX {
         // An error ends the program once the lines that are complete are written.
