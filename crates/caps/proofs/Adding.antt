@@ -13,31 +13,31 @@ pub on_ok_both : {T E P Q S : Type 0} (r : Result T E) → (P → Q → S) → O
 on_ok_both (Ok v) f p q = f p q
 on_ok_both (Err e) f p q = tt
 
-pub Appends-trans : (x y z : Option (List ℕ)) (l k : List ℕ) → Appends x y l → Appends y z k → Appends x z (l ++ k)
-Appends-trans None y z l k h g = tt
-Appends-trans (Some xs) None z l k h g = absurd h
-Appends-trans (Some xs) (Some ys) None l k h g = absurd g
-Appends-trans (Some xs) (Some ys) (Some zs) l k h g = g ∙ ap (λ (v : List ℕ). v ++ k) h ∙ append_assoc xs l k
+pub appends_trans : (x y z : Option (List ℕ)) (l k : List ℕ) → Appends x y l → Appends y z k → Appends x z (l ++ k)
+appends_trans None y z l k h g = tt
+appends_trans (Some xs) None z l k h g = absurd h
+appends_trans (Some xs) (Some ys) None l k h g = absurd g
+appends_trans (Some xs) (Some ys) (Some zs) l k h g = g ∙ ap (λ (v : List ℕ). v ++ k) h ∙ append_assoc xs l k
 
-pub Appends-put : (written : Option (List ℕ)) (waiting line : List ℕ) → Appends (append_known written waiting) (append_known written (waiting ++ line)) line
-Appends-put None waiting line = tt
-Appends-put (Some xs) waiting line = sym (append_assoc xs waiting line)
+pub appends_put : (written : Option (List ℕ)) (waiting line : List ℕ) → Appends (append_known written waiting) (append_known written (waiting ++ line)) line
+appends_put None waiting line = tt
+appends_put (Some xs) waiting line = sym (append_assoc xs waiting line)
 
 -- one more line is put, where there was room or what waited was written
-pub Adds-put :
+pub adds_put :
     (a b c d : Lines) (lines line : List ℕ) → Adds a b lines → Adds b c [] → d ≡ record c { waiting = c.waiting ++ line } → Adds a d (lines ++ line)
-Adds-put a b c d lines line before room put =
+adds_put a b c d lines line before room put =
     subst
     (λ (l : Lines). Adds a l (lines ++ line))
     (sym put)
-    (Appends-trans (made a) (made b) (made record c { waiting = c.waiting ++ line }) lines line before
-    (Appends-trans (made b) (made c) (made record c { waiting = c.waiting ++ line }) [] line room (Appends-put c.written c.waiting line)))
+    (appends_trans (made a) (made b) (made record c { waiting = c.waiting ++ line }) lines line before
+    (appends_trans (made b) (made c) (made record c { waiting = c.waiting ++ line }) [] line room (appends_put c.written c.waiting line)))
 
 pub next_record :
     (a b c d : Lines) (s : List ℕ) (i : ℕ) (line : List ℕ) → Adds a b (record_lines s i) → Adds b c [] → d ≡ record c { waiting = c.waiting ++ line }
     → line ≡ record_line s (8 * i) → Adds a d (record_lines s (i + 1))
 next_record a b c d s i line before room put is_line =
-    rw add-one (subst (λ (l : List ℕ). Adds a d (record_lines s i ++ l)) is_line (Adds-put a b c d (record_lines s i) line before room put))
+    rw add-one (subst (λ (l : List ℕ). Adds a d (record_lines s i ++ l)) is_line (adds_put a b c d (record_lines s i) line before room put))
 
 all_written : (written : Option (List ℕ)) (waiting : List ℕ) → waiting ≡ [] → append_known written waiting ≡ written
 all_written None waiting none = refl
@@ -52,9 +52,9 @@ last_line a b c d line room put flushed none =
     subst
     (λ (l : Lines). Adds a l line)
     (sym put)
-    (Appends-trans (made a) (made b) (made record b { waiting = b.waiting ++ line }) [] line room (Appends-put b.written b.waiting line))
+    (appends_trans (made a) (made b) (made record b { waiting = b.waiting ++ line }) [] line room (appends_put b.written b.waiting line))
     in
     subst
     (λ (w : Option (List ℕ)). Appends (made a) w line)
     (all_written d.written d.waiting none)
-    (subst (λ (l : List ℕ). Appends (made a) (made d) l) (append-nil line) (Appends-trans (made a) (made c) (made d) line [] added flushed))
+    (subst (λ (l : List ℕ). Appends (made a) (made d) l) (append-nil line) (appends_trans (made a) (made c) (made d) line [] added flushed))

@@ -11,9 +11,9 @@ use Rattle.std.proofs.Math.Seq.{take-append-add}
 use borrow.Rule.Slice.PartMut.{put_mid, post_of}
 use Rattle.caps.specs.Printing.{Bytes, Reads, unlisted}
 
-take-copy_within :
+take_copy_within :
     (xs : List ℕ) (from held : ℕ) → from ≤ held → held ≤ length xs → take (held - from) (copy_within xs from held 0) ≡ drop from (take held xs)
-take-copy_within xs from held start end =
+take_copy_within xs from held start end =
     let count : held - from ≡ 0 + (held - from) = omega arith in
     ap (λ (n : ℕ). take n (copy_within xs from held 0)) count
     ∙ take-paste xs 0 (drop from xs) (held - from) (omega arith) (simp length-drop (omega arith))
@@ -28,7 +28,7 @@ unfinished left before held after bytes fits copied view =
     let size : length (take held before) ≡ held = length-take-le held before fits in
     let rest : take (held - held / 8 * 8) after ≡ drop (length (take held before) / 8 * 8) (take held before) =
     ap (take (held - held / 8 * 8)) copied
-    ∙ take-copy_within before (held / 8 * 8) held (omega arith) fits
+    ∙ take_copy_within before (held / 8 * 8) held (omega arith) fits
     ∙ ap (λ (n : ℕ). drop (n / 8 * 8) (take held before)) (sym size)
     in
     subst
@@ -38,8 +38,8 @@ unfinished left before held after bytes fits copied view =
 
 module _ (block buf : List ℕ) (held n k : ℕ) (fits : held ≤ length block) (got : n ≤ length buf) where
   -- the bytes that were held, and behind them those that came
-  take-put_mid : take (held + n) (put_mid held k block buf) ≡ take held block ++ take n buf
-  take-put_mid =
+  take_put_mid : take (held + n) (put_mid held k block buf) ≡ take held block ++ take n buf
+  take_put_mid =
       let size : length (take held block) ≡ held = length-take-le held block fits in
       ap (λ (m : ℕ). take (m + n) (put_mid held k block buf)) (sym size)
       ∙ take-append-add (take held block) (buf ++ post_of held k block) n
@@ -51,7 +51,7 @@ module _ (block buf : List ℕ) (held n k : ℕ) (fits : held ≤ length block) 
   same_bytes None after h = tt
   same_bytes (Some xs) None h = absurd h
   same_bytes (Some xs) (Some ys) h =
-      ap (λ (l : List ℕ). l ++ ys) take-put_mid
+      ap (λ (l : List ℕ). l ++ ys) take_put_mid
       ∙ append_assoc (take held block) (take n buf) ys
       ∙ ap (λ (l : List ℕ). take held block ++ l) (sym h)
 
@@ -65,7 +65,7 @@ module _ (block buf : List ℕ) (held n k : ℕ) (fits : held ≤ length block) 
       let reads : Reads record { left = left; held = take held block } record { left = after; held = take (held + n) (put_mid held k block buf) } n =
       record {
         same = same_bytes left after read.0;
-        size = ap length take-put_mid ∙ length-append (take held block) (take n buf) ∙ ap (λ (m : ℕ). length (take held block) + m) came;
+        size = ap length take_put_mid ∙ length-append (take held block) (take n buf) ∙ ap (λ (m : ℕ). length (take held block) + m) came;
         end = λ none less. read.1 none (omega arith);
       }
       in

@@ -6,13 +6,13 @@ use Rattle.std.specs.Prelude.{Option, Some, None}
 use Rattle.std.specs.Io.KnownBytes.{prepend_known, Keeps, Appends, IsAtEnd}
 use Rattle.printed.specs.Printed.{record_lines, end_line, printed_of}
 use Rattle.caps.specs.Printing.{Bytes, Lines, Reads, Adds, made, unlisted, output_of}
-use Rattle.caps.proofs.Printing.{printed_of-append, printed_of-end}
+use Rattle.caps.proofs.Printing.{printed_of_append, printed_of_end}
 
-pub Keeps-trans : (a b c : Option (List ℕ)) → Keeps a b → Keeps b c → Keeps a c
-Keeps-trans None b c h g = tt
-Keeps-trans (Some xs) None c h g = absurd h
-Keeps-trans (Some xs) (Some ys) None h g = absurd g
-Keeps-trans (Some xs) (Some ys) (Some zs) h g = g ∙ h
+pub keeps_trans : (a b c : Option (List ℕ)) → Keeps a b → Keeps b c → Keeps a c
+keeps_trans None b c h g = tt
+keeps_trans (Some xs) None c h g = absurd h
+keeps_trans (Some xs) (Some ys) None h g = absurd g
+keeps_trans (Some xs) (Some ys) (Some zs) h g = g ∙ h
 
 listed :
     (made made' rest left : Option (List ℕ)) (held : List ℕ) → Keeps rest (prepend_known held left)
@@ -25,7 +25,7 @@ listed (Some w) None (Some s) (Some r) held read added = absurd added
 listed (Some w) (Some w') (Some s) (Some r) held read added =
     ap (λ (l : List ℕ). l ++ printed_of (drop (length held / 8 * 8) held ++ r)) added
     ∙ append_assoc w (record_lines held (length held / 8)) (printed_of (drop (length held / 8 * 8) held ++ r))
-    ∙ ap (λ (l : List ℕ). w ++ l) (sym (printed_of-append held r) ∙ ap printed_of read)
+    ∙ ap (λ (l : List ℕ). w ++ l) (sym (printed_of_append held r) ∙ ap printed_of read)
 
 ended :
     (made written rest left : Option (List ℕ)) (held : List ℕ) (n : ℕ) → length held < 8 → n ≡ length held → Keeps rest (prepend_known held left)
@@ -36,7 +36,7 @@ ended (Some w) written (Some s) None held n few count read end added = absurd re
 ended (Some w) None (Some s) (Some r) held n few count read end added = absurd added
 ended (Some w) (Some w') (Some s) (Some r) held n few count read end added =
     let whole : held ≡ s = sym (append-nil held) ∙ ap (λ (l : List ℕ). held ++ l) (sym end) ∙ read in
-    added ∙ ap (λ (l : List ℕ). w ++ l) (ap end_line count ∙ sym (printed_of-end held few) ∙ ap printed_of whole)
+    added ∙ ap (λ (l : List ℕ). w ++ l) (ap end_line count ∙ sym (printed_of_end held few) ∙ ap printed_of whole)
 
 -- a read, and the lines of the whole records
 pub turn :

@@ -4,7 +4,7 @@ use rules::Profile;
 use steps::HalfWatts;
 use verdicts::{SUCCESS, Verdict};
 
-// The number of a refusal and its place.
+// The number of a refusal and its place, as the page has them: the tables write numbers out, not the library's names.
 pub(crate) type Refusal = (u8, u8);
 
 pub(crate) const PASSES: Refusal = (SUCCESS, 0);

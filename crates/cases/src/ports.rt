@@ -2,10 +2,11 @@
 use rules::Profile;
 use steps::{HalfWatts, Ma10};
 
+// By the number that a profile has for it.
 #[derive(Clone, Copy)]
 pub(crate) enum Rounding {
-    Down,
-    Up,
+    Down = 0,
+    Up = 1,
 }
 
 #[derive(Clone, Copy)]
