@@ -15,7 +15,7 @@ use Rattle.summaries.specs.declared.QuickRequest.{QuickRequest}
 use Rattle.summaries.specs.declared.QuickRequest.TheVariants.{Fixed, Variable, Pps, Avs}
 use Rattle.summaries.specs.declared.QuickAsked.{QuickAsked}
 use Rattle.summaries.specs.declared.TakenRequest.{TakenRequest}
-use Rattle.summaries.specs.declared.TakenRequest.TheVariants.{Refused, Battery, Quick}
+use Rattle.summaries.specs.declared.TakenRequest.TheVariants.{Battery, Quick}
 use Rattle.summaries.specs.Taking.{taken_of}
 use Rattle.summaries.specs.Answering.{summary_refusals}
 use Rattle.flat.specs.declared.FlatRequest.{FlatRequest}
@@ -74,10 +74,10 @@ abbrev pub flat_taken_told : Result FlatRequest Verdict → FlatTaken
 flat_taken_told (Ok x) = taken_as x
 flat_taken_told (Err v) = record { verdict = v; request = no_request }
 
-abbrev pub flat_taken_by : TakenRequest → FlatTaken
-flat_taken_by (Refused v) = record { verdict = v; request = no_request }
-flat_taken_by (Battery p mismatch) = taken_as (flat_battery_of p mismatch)
-flat_taken_by (Quick a) = taken_as (flat_request_of a)
+abbrev pub flat_taken_by : Result TakenRequest Verdict → FlatTaken
+flat_taken_by (Err v) = record { verdict = v; request = no_request }
+flat_taken_by (Ok (Battery p mismatch)) = taken_as (flat_battery_of p mismatch)
+flat_taken_by (Ok (Quick a)) = taken_as (flat_request_of a)
 
 unfoldable pub flat_taken_of : Words → ℕ → FlatTaken
 flat_taken_of l w = flat_taken_by (taken_of l w)

@@ -86,8 +86,7 @@ impl From<Result<FlatRequest, Verdict>> for FlatTaken {
 fn taken(list: Words, word: u32) -> Result<FlatRequest, Verdict>
     ensures { flat_taken_told result ≡ flat_taken_of list word }
 {
-    match summaries::take_request(list, word) {
-        TakenRequest::Refused(verdict) => Err(verdict),
+    match summaries::take_request(list, word)? {
         TakenRequest::Battery { position, mismatch } => Ok(flatten_battery(position, mismatch)),
         TakenRequest::Quick(asked) => Ok(FlatRequest::from(asked)),
     }
