@@ -1,7 +1,7 @@
 -- `lists::shape_check::judge` meets its contract: each return cites the law of its case.
 -- Assumes nothing.
 use Rattle.std.specs.Prelude.{Ok, Err, Some}
-use mathlib.Core.Path.{ap, sym, ◌∙◌}
+use mathlib.Core.Path.{◌≡◌, ap, sym, ◌∙◌}
 use mathlib.Core.Bool.{false, not}
 use Rattle.objects.proofs.Saying.{decoded_for}
 use Rattle.lists.specs.Shape.{out_of_order}
@@ -40,6 +40,7 @@ returns-then-over_100_w c before e =
     (sym c.reserved_bit_set.ensures ∙ c.if-reserved_bit_set.false)
     (sym c.out_of_bounds.ensures ∙ c.if-out_of_bounds.false)
     (sym c.over_100_w.ensures ∙ c.if-over_100_w.true)
+
 pub returns-then-not-may_follow : goal.returns-then-not-may_follow
 returns-then-not-may_follow c before e =
     let a = c.args in
