@@ -152,6 +152,8 @@ pub fn shape(list: Words) -> Verdict
     Verdict::from(judge_list(Side::Source, list))
 }
 
+// A function of its own beside `shape`: so each side's check stands once in a program. Put into its callers, it makes the calls of a board half
+// as long again, and writing slower.
 fn shape_sink(list: Words) -> Verdict
     ensures { ShapesFor Side.Sink list result }
 {
