@@ -4,6 +4,7 @@ pub mod Laying
 pub mod Steps
 pub mod Refusals
 pub mod Parts
+pub mod Chunks
 pub mod Readings
 pub mod Writings
 pub mod RoundTrips

@@ -21,9 +21,8 @@ fn message_in(bytes: &[u8], header: Header) -> Message
         header,
         words: [0; 7],
     };
-    for i in 0..header.count as usize {
-        let at = 2 + 4 * i;
-        message.words[i] = word_of(&bytes[at..at + 4]);
+    for (i, four) in bytes[2..].chunks_exact(4).enumerate() {
+        message.words[i] = word_of(four);
     }
     message
 }
