@@ -1,4 +1,5 @@
-// A list from the currents of its objects, in 10 mA. An object that has no current is not there.
+// A list from the currents of its objects, in 10 mA. An object whose current is 0 is not there: a number and no Option, since the
+// word of AVS has that 0 in it, and the page's columns read as they stand.
 use lists::{NO_WORDS, Words};
 
 #[derive(Clone, Copy)]
