@@ -4,8 +4,8 @@ usage: python3 tools/public_calls.py [ROOT]
 
 A function is public when another crate can reach it: it stands in lib.rt, lib.rt has a `pub use module::name;` or
 `pub use module::{name, ..};` for it, or it is a method of a type or a trait that is public in this way. A conversion to such a type, by From or
-TryFrom, needs no row: its ghost member has to be an equation, `λ a r. r ≡ ..`, which settles its answer by itself. Programs, which have a main.rt,
-and the crates in EXEMPT are not asked. No crate can reach into a static library, NAME_c: its exports have to be the public functions of the library
+TryFrom, needs no row: its ghost member has to be an equation, `λ a r. r ≡ ..`, which settles its answer by itself, or the promise of a public
+function of the crate, which has its row. Programs, which have a main.rt, and the crates in EXEMPT are not asked. No crate can reach into a static library, NAME_c: its exports have to be the public functions of the library
 NAME, each with the arguments, the answer and the clauses that it has there.
 Each public function has one row under "## Every public function":
 
@@ -149,15 +149,17 @@ def functions_in(path, place, traits, faults):
             yield owner, function[2], at, clauses_from(lines[at - 1 :])
 
 
-def conversions_in(path, place, types, traits, faults):
-    """How many conversions to public types a file has: the answer of each is an equation."""
+def conversions_in(path, place, types, traits, promises, faults):
+    """How many conversions to public types a file has: the answer of each is an equation, or one of these promises of public functions."""
     lines, found = lines_of(path), 0
     for at, line, trait, owner in blocks_in(path, place, traits, []):
         if trait in CONVERSIONS and owner in types and block_of(line):
             found += 1
             rest = lines[at:]
             block = " ".join(rest[: rest.index("}")])
-            if not re.search(rf" ghost {CONVERSIONS[trait]} = {{ λ (\w+) (\w+)\. \2 ≡ (?:(?!\b\2\b)[^;])* }};", block):
+            promise = re.search(rf" ghost {CONVERSIONS[trait]} = {{ (\w+) }};", block)
+            equation = re.search(rf" ghost {CONVERSIONS[trait]} = {{ λ (\w+) (\w+)\. \2 ≡ (?:(?!\b\2\b)[^;])* }};", block)
+            if not equation and not (promise and promise[1] in promises):
                 faults.append(f"{place}:{at}: a conversion that no equation `ghost {CONVERSIONS[trait]} = {{ λ a r. r ≡ .. }};` settles: {line}")
     return found
 
@@ -166,13 +168,15 @@ def public_functions(root, crate, traits, faults):
     """Each public function of a crate, its name, where it stands, and its clauses; and how many conversions. `traits` are those of all crates."""
     source, place = root / "crates" / crate / "src", f"crates/{crate}/src"
     types, uses = offered_by(source, place, faults)
-    found, conversions = [], 0
+    found, promises, conversions = [], set(), 0
     for path in sorted(source.glob("*.rt")):
         for owner, name, line, clauses in functions_in(path, f"{place}/{path.name}", traits, faults):
             public = owner in types if owner else (path.stem == "lib" or f"{path.stem}::{name}" in uses)
             if public:
                 found.append((f"{crate}::{owner + '::' if owner else ''}{name}", f"{place}/{path.name}:{line}", clauses))
-        conversions += conversions_in(path, f"{place}/{path.name}", types, traits, faults)
+                promises.update(re.findall(r"\bensures \{ (\w+) ", " ".join(head_of(lines_of(path)[line - 1 :]))))
+    for path in sorted(source.glob("*.rt")):
+        conversions += conversions_in(path, f"{place}/{path.name}", types, traits, promises, faults)
     return found, conversions
 
 

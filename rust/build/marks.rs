@@ -78,11 +78,13 @@ const BY_SIDE: &str = "side: Side";
 pub const WHOLE: [&str; 2] = ["lists::shape", "lists::shape_sink"];
 
 /// Put into their callers too: these take an object or a decoded request that the caller has just made, or make one that it takes apart; or
-/// they give a list, a message or an object, or its refusal, and would copy it once more.
-pub const PUT_IN: [&str; 12] = [
+/// they put words into a list, or give a list, a message or an object, or its refusal, and would copy it once more.
+pub const PUT_IN: [&str; 14] = [
     "objects::decode_sink",
     "objects::encode",
     "rules::built",
+    "rules::put_rails",
+    "rules::put_supplies",
     "requests::take_apart",
     "summaries::answer_summary",
     "summaries::named",

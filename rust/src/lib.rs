@@ -129,10 +129,9 @@
 #![allow(unused_variables)]
 // The source is written for the prover, and stays as it is.
 #![allow(
-    clippy::collapsible_if,
     clippy::manual_checked_ops,
-    clippy::manual_is_multiple_of,
-    clippy::too_many_arguments
+    clippy::manual_range_contains,
+    clippy::needless_range_loop
 )]
 
 mod defaults;
