@@ -7,9 +7,6 @@ use Rattle.rules.proofs.PutDown.{said_as, supply_put, room}
 use Rattle.rules.proofs.Places.{with_pps}
 use Rattle.rules.proofs.building.put_supplies.Goals as goal
 
-pub loop-row-init : goal.loop-row-init
-loop-row-init c = said_as c.requires (no_supplies _) refl refl
-
 pub put_row-requires : goal.put_row-requires
 put_row-requires c =
     let p = c.args.port.profile in
