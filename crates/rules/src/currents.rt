@@ -162,6 +162,7 @@ impl Port {
     }
 
     // Whether a programmable supply may have this current.
+    #[tactic(auto, using(std::proofs::lemmas::Grind::common_steps, crate::proofs::Allowed::built_figure, crate::proofs::Allowed::not_above, crate::proofs::Allowed::below_built, crate::proofs::Allowed::by_cable), unfolding(crate::specs::Currents::prog_current))]
     pub(crate) fn prog_allowed(self, volts: u16, current: Ma50) -> bool
         ensures { result ≡ prog_allowed self.profile volts current.0 }
     {

@@ -1,12 +1,6 @@
 -- `rules::building::put_rails` meets its contract: the invariant is that the rows passed are put down.
 -- Assumes nothing.
-use Prim.Native.Nat.{ℕ}
-use borrow.Author.Tests.{ltb-true}
-use mathlib.Core.Path.{◌≡◌, subst}
-use native.Mathlib.Omega.{arith}
-use Rattle.rules.specs.Building.{PutDown}
-use Rattle.rules.proofs.TableWalk.{rails_to, rail_volts, rail_volts_above_0, rail_stands}
-use Rattle.rules.proofs.PutDown.{none_put, rail_put, room}
+use Rattle.rules.proofs.PutDown.{none_put, rail_put}
 use Rattle.rules.proofs.building.put_rails.Goals as goal
 
 pub loop-row-init : goal.loop-row-init

@@ -2,7 +2,7 @@
 -- Assumes nothing.
 use mathlib.Core.Path.{◌≡◌, refl, sym, ap, ◌∙◌}
 use native.Mathlib.Omega.{arith}
-use Rattle.rules.proofs.TableWalk.{supplies_to, all_supplies, supply_stands, no_supplies}
+use Rattle.rules.proofs.TableWalk.{supplies_to, all_supplies, supply_stands}
 use Rattle.rules.proofs.PutDown.{said_as, supply_put, room}
 use Rattle.rules.proofs.Places.{with_pps}
 use Rattle.rules.proofs.building.put_supplies.Goals as goal

@@ -5,7 +5,7 @@ use Prim.Native.Nat.{ℕ, ◌+◌, ◌≤◌}
 use native.Mathlib.Omega.{arith}
 use lib.ListN.{length}
 use Rattle.rules.specs.Tables.{slots}
-use Rattle.rules.proofs.TableWalk.{supplies_to, no_supplies, all_supplies, supply_stands, supply_on, supply_skipped}
+use Rattle.rules.proofs.TableWalk.{supplies_to, all_supplies, supply_stands, supply_on, supply_skipped}
 use Rattle.rules.proofs.PutDown.{prog_anywhere}
 use Rattle.rules.proofs.Places.{word_there, none_there, stands_at}
 use Rattle.rules.proofs.placing.supply_at.Goals as goal

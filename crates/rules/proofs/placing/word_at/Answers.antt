@@ -1,15 +1,10 @@
 -- `rules::word_at` meets its contract: the refusals of the builder, then the place.
 -- Assumes nothing.
-use Rattle.std.specs.Prelude.{Option, Some, None, Result, Ok, Err, MatchResult}
-use Rattle.std.specs.Result.{result_ok}
+use Rattle.std.specs.Prelude.{Option}
 use mathlib.Core.Path.{◌≡◌, sym, ap, ◌∙◌, subst}
 use Prim.Native.Nat.{ℕ, ◌-◌, ◌≤◌}
-use Rattle.verdicts.specs.declared.Verdict.{Verdict}
-use Rattle.verdicts.specs.Refusals.{NoneApply, passed_by}
 use Rattle.lists.specs.declared.Listing.{Listing}
 use Rattle.rules.specs.declared.Profile.{Profile}
-use Rattle.rules.specs.declared.port.Port.{Port}
-use Rattle.rules.specs.Profiles.{build_refusals}
 use Rattle.rules.specs.Building.{built_of}
 use Rattle.rules.specs.Placing.{placed_in, placed_at, placed_says, place_says}
 use Rattle.rules.proofs.Builds.{build_refused, build_clear, built_count_high}

@@ -1,10 +1,8 @@
 -- `rules::port::Candidate::follow_rails` meets its contract: the invariant is that the rows passed are followed.
 -- Assumes nothing.
-use mathlib.Core.Path.{◌≡◌, sym, ap, ◌∙◌}
-use Prim.Native.Nat.{ℕ, ◌+◌, ◌≤◌}
+use mathlib.Core.Path.{sym, ◌∙◌}
+use Prim.Native.Nat.{◌+◌, ◌≤◌}
 use native.Mathlib.Omega.{arith}
-use Rattle.rules.specs.Following.{followed}
-use Rattle.rules.proofs.TableWalk.{rails_to, rail_volts, rail_volts_above_0}
 use Rattle.rules.proofs.Steps.{none_followed, lost_on, rail_followed}
 use Rattle.rules.proofs.Places.{rails_left}
 use Rattle.rules.proofs.port.Candidate.follow_rails.Goals as goal

@@ -4,7 +4,7 @@ use mathlib.Core.Path.{◌≡◌, sym, ap, ◌∙◌}
 use Prim.Native.Nat.{ℕ, ◌+◌, ◌≤◌}
 use native.Mathlib.Omega.{arith}
 use Rattle.rules.specs.Following.{followed}
-use Rattle.rules.proofs.TableWalk.{supplies_to, all_supplies, no_supplies}
+use Rattle.rules.proofs.TableWalk.{supplies_to, all_supplies}
 use Rattle.rules.proofs.Steps.{lost_on, supply_followed}
 use Rattle.rules.proofs.Places.{supplies_left}
 use Rattle.rules.proofs.port.Candidate.follow_supplies.Goals as goal
