@@ -36,6 +36,7 @@ fn put_row<R: Row>(list: &mut Words, port: Port, row: R)
     }
 }
 
+// One loop for each table: a common one over a slice of rows would be no plainer, since it would have to be told what stands before them.
 fn put_rails(list: &mut Words, port: Port)
     requires { list.old ≡ no_words }
     ensures { PutDown port.profile (length (fixed_slots port.profile.max.0 rails)) list.new.words list.new.count }

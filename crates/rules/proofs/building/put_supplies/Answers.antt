@@ -2,13 +2,10 @@
 -- Assumes nothing.
 use mathlib.Core.Path.{◌≡◌, refl, sym, ap, ◌∙◌}
 use native.Mathlib.Omega.{arith}
-use Rattle.rules.proofs.TableWalk.{supplies_to, all_supplies, supply_stands, no_supplies}
+use Rattle.rules.proofs.TableWalk.{supplies_to, all_supplies, supply_stands}
 use Rattle.rules.proofs.PutDown.{said_as, supply_put, room}
 use Rattle.rules.proofs.Places.{with_pps}
 use Rattle.rules.proofs.building.put_supplies.Goals as goal
-
-pub loop-row-init : goal.loop-row-init
-loop-row-init c = said_as c.requires (no_supplies _) refl refl
 
 pub put_row-requires : goal.put_row-requires
 put_row-requires c =
