@@ -7,11 +7,8 @@ use native.Mathlib.Numerals.{add-one}
 use native.Mathlib.Omega.{arith}
 use lib.ListN.{length, take, drop, get_or, length-append, length-drop}
 use lib.Seq.{take_at, drop_at, drop-drop}
-use Rattle.objects.specs.Layout.{joined}
-use Rattle.messages.specs.declared.Message.{Message}
 use Rattle.messages.specs.LowFirst.{two_bytes, four_bytes}
-use Rattle.messages.specs.Headers.{fields_of}
-use Rattle.messages.specs.Writing.{word_bytes, laid_over}
+use Rattle.messages.specs.Writing.{word_bytes}
 
 pub word_bytes_length : (ws : List ℕ) (n : ℕ) → length (word_bytes ws n) ≡ 4 * n
 word_bytes_length ws zero = refl
@@ -57,11 +54,3 @@ module _ (front past : List ℕ) (h : ℕ) (e : front ≡ two_bytes h) (ws : Lis
 
   pub after_header : (n : ℕ) → laid_to (front ++ past) h ws n ≡ (two_bytes h ++ word_bytes ws n) ++ drop (4 * n) past
   after_header n = ap (λ (l : List ℕ). (two_bytes h ++ word_bytes ws n) ++ l) (sym (drop-drop (4 * n) 2 (front ++ past)) ∙ rw e refl)
-
--- the header and all words, once the last is there
-pub all_laid : (bs : List ℕ) (m : Message) (front : List ℕ) (h i : ℕ) → front ≡ two_bytes h → h ≡ joined (fields_of m.header) → i ≡ m.header.count
-    → laid_to (front ++ drop 2 bs) h m.words i ≡ laid_over bs m
-all_laid bs m front h i e f n =
-    after_header front (drop 2 bs) h e m.words i
-    ∙ ap (λ (l : List ℕ). (two_bytes h ++ word_bytes m.words i) ++ l) (drop-drop (4 * i) 2 bs)
-    ∙ ap₂ (λ (g k : ℕ). (two_bytes g ++ word_bytes m.words k) ++ drop (2 + 4 * k) bs) f n

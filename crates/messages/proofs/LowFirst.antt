@@ -2,8 +2,10 @@
 -- Assumes nothing.
 use mathlib.Core.Path.{◌≡◌, refl}
 use mathlib.Core.Bool.{true}
-use mathlib.Core.List.{[], ◌∷◌}
+use mathlib.Core.List.{List, [], ◌∷◌}
 use Prim.Native.Nat.{ℕ, ◌^◌, ◌<◌}
+use native.Mathlib.Omega.{arith}
+use lib.ListN.{length, set}
 use borrow.Author.Tests.{lt-ltb}
 use Rattle.objects.specs.Bits.{bits}
 use Rattle.objects.specs.Layout.{all_fit, joined}
@@ -31,3 +33,19 @@ module _ (a b c d : ℕ) (ha : a < 2 ^ 8) (hb : b < 2 ^ 8) (hc : c < 2 ^ 8) (hd 
 
   pub four_parted : four_bytes (joined (four_fields a b c d)) ≡ a ∷ b ∷ c ∷ d ∷ []
   four_parted = let e = parted (four_fields a b c d) refl four_fit in cc
+
+-- ---- a part with as many bytes as are put there
+
+pub all_two : (bs : List ℕ) → length bs ≡ 2 → {a b : ℕ} → set (set bs 0 a) 1 b ≡ a ∷ b ∷ []
+all_two [] e = absurd (omega (arith, e))
+all_two (x ∷ []) e = absurd (omega (arith, e))
+all_two (x ∷ y ∷ []) e = refl
+all_two (x ∷ y ∷ z ∷ bs) e = absurd (omega (arith, e))
+
+pub all_four : (bs : List ℕ) → length bs ≡ 4 → {a b c d : ℕ} → set (set (set (set bs 0 a) 1 b) 2 c) 3 d ≡ a ∷ b ∷ c ∷ d ∷ []
+all_four [] e = absurd (omega (arith, e))
+all_four (x ∷ []) e = absurd (omega (arith, e))
+all_four (x ∷ y ∷ []) e = absurd (omega (arith, e))
+all_four (x ∷ y ∷ z ∷ []) e = absurd (omega (arith, e))
+all_four (x ∷ y ∷ z ∷ v ∷ []) e = refl
+all_four (x ∷ y ∷ z ∷ v ∷ u ∷ bs) e = absurd (omega (arith, e))

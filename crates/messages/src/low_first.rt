@@ -19,18 +19,25 @@ pub(crate) fn word_of(part: &[u8]) -> u32
     u32::from_le_bytes([part[0], part[1], part[2], part[3]])
 }
 
-#[tactic(auto, unfolding(objects::specs::Bits::bits))]
+// Byte by byte, and so is a word: at opt-level s a copy from a slice is a call of its own, which made writing twice as long.
+#[tactic(auto, using(crate::proofs::LowFirst::all_two), unfolding(objects::specs::Bits::bits))]
 pub(crate) fn put_half(part: &mut [u8], half: u16)
     requires { length part.old ≡ 2 }
     ensures { part.new ≡ two_bytes half }
 {
-    part.copy_from_slice(&half.to_le_bytes());
+    let [a, b] = half.to_le_bytes();
+    part[0] = a;
+    part[1] = b;
 }
 
-#[tactic(auto, unfolding(objects::specs::Bits::bits))]
+#[tactic(auto, using(crate::proofs::LowFirst::all_four), unfolding(objects::specs::Bits::bits))]
 pub(crate) fn put_word(part: &mut [u8], word: u32)
     requires { length part.old ≡ 4 }
     ensures { part.new ≡ four_bytes word }
 {
-    part.copy_from_slice(&word.to_le_bytes());
+    let [a, b, c, d] = word.to_le_bytes();
+    part[0] = a;
+    part[1] = b;
+    part[2] = c;
+    part[3] = d;
 }

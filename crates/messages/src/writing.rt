@@ -20,10 +20,10 @@ fn put_message(bytes: &mut [u8], message: Message)
     let header = message.header;
     let half = half_of_header(header);
     put_half(&mut bytes[0..2], half);
-    // By its place: of chunks that were lent for writing a proof knows afterwards only how many bytes they had.
-    for (i, word) in message.words[..header.count as usize].iter().enumerate() {
+    // By index: of chunks that are lent for writing, a proof knows afterwards only how many bytes they have.
+    for i in 0..header.count as usize {
         let at = 2 + 4 * i;
-        put_word(&mut bytes[at..at + 4], *word);
+        put_word(&mut bytes[at..at + 4], message.words[i]);
     }
 }
 

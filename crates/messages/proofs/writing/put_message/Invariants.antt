@@ -6,4 +6,4 @@ use Rattle.messages.proofs.Laying.{laid_to}
 use Rattle.messages.proofs.writing.put_message.Given as goal
 
 abbrev pub invariant-loop-i : goal.invariant-loop-i
-invariant-loop-i l = l.bytes ≡ laid_to l.initial.bytes l.half l.fn.message.words l.i
+invariant-loop-i l = l.bytes ≡ laid_to l.initial.bytes l.half l.message.words l.i
