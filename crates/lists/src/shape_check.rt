@@ -19,7 +19,7 @@ use verdicts::{PASSED, Verdict};
 pub fn bad_count(count: u8) -> bool
     ensures { MiscountsPlaces count result }
 {
-    count < 1 || 7 < count
+    !(1..=7).contains(&count)
 }
 
 // A fixed voltage stands in bits 19..10. 5 V is 100 steps of 50 mV.
