@@ -61,8 +61,8 @@ module _ (p : Profile) (l : Words) where
   by_currents x y e = past_shape x y ∙ miss err (Ok tt) 18 0 _ e
 
 -- a list that is checked: none of the refusals of its shape applies
-pub list_fine : (c : Candidate) → NoneApply (shape_refusals c.list)
-list_fine c = none_of Source c.list c.shaped
+pub list_fine : (c : Candidate) → NoneApply (shape_refusals c.list.now)
+list_fine c = none_of Source c.list.now c.shaped
 
 -- so it has at most seven words
 pub shape_seven : (l : Words) → (shape_of l).number ≡ 0 → l.count ≤ 7

@@ -59,11 +59,11 @@ impl Walk {
     }
 }
 
-impl Candidate {
+impl<'a> Candidate<'a> {
     // The object at a place; past the count there is none.
     #[tactic(auto, unfolding(crate::specs::Following::object_at))]
     fn object_at(&self, at: u8) -> Option<Object>
-        ensures { result ≡ object_at self.now.list at }
+        ensures { result ≡ object_at self.now.list.now at }
     {
         if at < self.list.count {
             return objects::decode(self.list.words[at as usize]);
@@ -75,7 +75,7 @@ impl Candidate {
     #[tactic(auto, using(crate::proofs::Steps::step_is, crate::proofs::Steps::step_past, crate::proofs::Steps::before))]
     fn follow_row<R: Row>(&self, row: R, walk: Walk) -> Option<Walk>
         requires { R.real row }
-        ensures { result ≡ step_if (R.there self.now.port.profile.max.0 row) self.now.port.profile self.now.list (R.slot self.now.port.profile.max.0 row) walk }
+        ensures { result ≡ step_if (R.there self.now.port.profile.max.0 row) self.now.port.profile self.now.list.now (R.slot self.now.port.profile.max.0 row) walk }
     {
         if row.is_there(self.port.profile.max) {
             let o = self.object_at(walk.at)?;
@@ -87,7 +87,7 @@ impl Candidate {
 
     // One loop for each table, as in the builder.
     fn follow_rails(&self) -> Option<Walk>
-        ensures { result ≡ followed self.now.port.profile self.now.list (length (fixed_slots self.now.port.profile.max.0 rails)) }
+        ensures { result ≡ followed self.now.port.profile self.now.list.now (length (fixed_slots self.now.port.profile.max.0 rails)) }
     {
         let mut walk = Walk { at: 0, fault: None };
         for row in RAILS {
@@ -98,15 +98,15 @@ impl Candidate {
 
     // What a list without programmable supplies has.
     fn follow_base(&self) -> Option<Walk>
-        ensures { result ≡ followed self.now.port.profile self.now.list (length (base_slots self.now.port.profile.max.0)) }
+        ensures { result ≡ followed self.now.port.profile self.now.list.now (length (base_slots self.now.port.profile.max.0)) }
     {
         let rails = self.follow_rails()?;
         self.follow_row(AvsRow, rails)
     }
 
     fn follow_supplies(&self, base: Walk) -> Option<Walk>
-        requires { followed self.now.port.profile self.now.list (length (base_slots self.now.port.profile.max.0)) ≡ Some base }
-        ensures { result ≡ followed self.now.port.profile self.now.list (length (slots self.now.port.profile.max.0)) }
+        requires { followed self.now.port.profile self.now.list.now (length (base_slots self.now.port.profile.max.0)) ≡ Some base }
+        ensures { result ≡ followed self.now.port.profile self.now.list.now (length (slots self.now.port.profile.max.0)) }
     {
         let mut walk = base;
         for row in SUPPLIES {
@@ -116,7 +116,7 @@ impl Candidate {
     }
     // The set of objects (18), then the currents (19).
     fn judged(&self) -> Result<(), Verdict>
-        ensures { result ≡ passed_by (check_refusals self.now.port.profile self.now.list) }
+        ensures { result ≡ passed_by (check_refusals self.now.port.profile self.now.list.now) }
     {
         let wrong_set = Verdict::placeless(verdicts::WRONG_SET);
         let Some(base) = self.follow_base() else {
@@ -144,7 +144,7 @@ fn checked(p: Profile, list: Words) -> Result<(), Verdict>
 {
     let port = Port::try_from(p)?;
     lists::shape(list).passed()?;
-    Candidate { port, list }.judged()
+    Candidate { port, list: &list }.judged()
 }
 
 // Whether a list keeps to the power rules of a profile. Rounding, PPS wanted and flags have to be in range, and do not matter beyond

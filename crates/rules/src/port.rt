@@ -17,9 +17,9 @@ pub(crate) struct Port {
 
 // A list that is checked for a port. Its shape has passed, so it has at most seven words.
 #[derive(Clone, Copy)]
-pub(crate) struct Candidate {
+pub(crate) struct Candidate<'a> {
     pub(crate) port: Port,
-    pub(crate) list: Words,
-    ghost shaped: { (shape_of list).number ≡ 0 },
-    ghost seven: { list.count ≤ 7 },
+    pub(crate) list: &'a Words,
+    ghost shaped: { (shape_of list.now).number ≡ 0 },
+    ghost seven: { list.now.count ≤ 7 },
 }

@@ -8,7 +8,7 @@ use Rattle.rules.specs.declared.Profile.{Profile}
 use Rattle.rules.specs.Building.{built_of}
 use Rattle.rules.specs.Placing.{placed_in, placed_at, placed_says, place_says}
 use Rattle.rules.proofs.Builds.{build_refused, build_clear, built_count_high}
-use Rattle.rules.proofs.Places.{place_0, none_placed, placed_there}
+use Rattle.rules.proofs.Places.{none_placed, placed_there}
 use Rattle.rules.proofs.Saying.{place_says_lem}
 use Rattle.rules.proofs.placing.word_at.Goals as goal
 
@@ -19,9 +19,6 @@ placed place l = placed_in l.list place
 -- an answer that is the definition's says what is to be said
 says : (p : Profile) (place : ℕ) (r : Option ℕ) → r ≡ placed_in (built_of p).list place → placed_says r ≡ place_says (built_of p).list place
 says p place r e = ap placed_says e ∙ sym (place_says_lem (built_of p).list place)
-
-pub returns-then-place-lt1 : goal.returns-then-place-lt1
-returns-then-place-lt1 c = says _ _ _ (sym (place_0 _ _ c.if-place-lt1.true))
 
 pub returns-in-Ok : goal.returns-in-Ok
 returns-in-Ok c =

@@ -9,9 +9,9 @@ pub returns-in_err-rails : goal.returns-in_err-rails
 returns-in_err-rails c =
     let s = c.args.self.now in
     let p = s.port.profile in
-    c.from_residual.ensures ∙ sym (lost_on p s.list _ _ (rails_in_base_lem p.max.0) (sym c.follow_rails.ensures ∙ c.in_err-rails.was))
+    c.from_residual.ensures ∙ sym (lost_on p s.list.now _ _ (rails_in_base_lem p.max.0) (sym c.follow_rails.ensures ∙ c.in_err-rails.was))
 
 pub returns : goal.returns
 returns c =
     let s = c.args.self.now in
-    c.follow_row.ensures ∙ avs_followed s.port.profile s.list _ (sym c.follow_rails.ensures ∙ c.in_ok-rails.was)
+    c.follow_row.ensures ∙ avs_followed s.port.profile s.list.now _ (sym c.follow_rails.ensures ∙ c.in_ok-rails.was)

@@ -7,4 +7,4 @@ use Rattle.rules.proofs.TableWalk.{rails_to}
 use Rattle.rules.proofs.port.Candidate.follow_rails.Given as goal
 
 abbrev pub invariant-loop-row : goal.invariant-loop-row
-invariant-loop-row l = followed l.self.port.profile l.self.list (rails_to l.self.port.profile.max.0 l.row-index) ≡ Some l.walk
+invariant-loop-row l = followed l.self.port.profile l.self.list.now (rails_to l.self.port.profile.max.0 l.row-index) ≡ Some l.walk

@@ -16,13 +16,13 @@ returns-in_err-walk c =
     let high = s.port.within.max in
     let i = c.loop-row.row-index in
     let h : i + 1 ≤ 3 = omega arith in
-    let lost = sym (supply_followed p s.list c.loop-row.walk high i c.loop-row-test.true c.loop-row.invariant) ∙ sym c.follow_row.ensures ∙ c.in_err-walk.was in
-    c.from_residual.ensures ∙ sym (lost_on p s.list _ _ (supplies_left p.max.0 (i + 1) high h) lost)
+    let lost = sym (supply_followed p s.list.now c.loop-row.walk high i c.loop-row-test.true c.loop-row.invariant) ∙ sym c.follow_row.ensures ∙ c.in_err-walk.was in
+    c.from_residual.ensures ∙ sym (lost_on p s.list.now _ _ (supplies_left p.max.0 (i + 1) high h) lost)
 
 pub loop-row-preserved : goal.loop-row-preserved
 loop-row-preserved c =
     let s = c.args.self.now in
-    sym (supply_followed s.port.profile s.list c.loop-row.walk s.port.within.max c.loop-row.row-index c.loop-row-test.true c.loop-row.invariant)
+    sym (supply_followed s.port.profile s.list.now c.loop-row.walk s.port.within.max c.loop-row.row-index c.loop-row-test.true c.loop-row.invariant)
     ∙ sym c.follow_row.ensures ∙ c.in_ok-walk.was
 
 pub returns : goal.returns
@@ -30,5 +30,5 @@ returns c =
     let s = c.args.self.now in
     let m = s.port.profile.max.0 in
     let e : c.loop-row.row-index ≡ 3 = omega arith in
-    sym c.loop-row.invariant ∙ ap (λ (i : ℕ). followed s.port.profile s.list (supplies_to m i)) e
-    ∙ ap (followed s.port.profile s.list) (all_supplies m s.port.within.max)
+    sym c.loop-row.invariant ∙ ap (λ (i : ℕ). followed s.port.profile s.list.now (supplies_to m i)) e
+    ∙ ap (followed s.port.profile s.list.now) (all_supplies m s.port.within.max)

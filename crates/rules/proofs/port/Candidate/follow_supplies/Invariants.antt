@@ -7,4 +7,4 @@ use Rattle.rules.proofs.TableWalk.{supplies_to}
 use Rattle.rules.proofs.port.Candidate.follow_supplies.Given as goal
 
 abbrev pub invariant-loop-row : goal.invariant-loop-row
-invariant-loop-row l = followed l.self.port.profile l.self.list (supplies_to l.self.port.profile.max.0 l.row-index) ≡ Some l.walk
+invariant-loop-row l = followed l.self.port.profile l.self.list.now (supplies_to l.self.port.profile.max.0 l.row-index) ≡ Some l.walk

@@ -19,13 +19,13 @@ misses e f w g h = f (ap (λ (x : Walk). x.at) (same_walk (sym e ∙ g)) ∙ h)
 pub returns-in_default : goal.returns-in_default
 returns-in_default c =
     let s = c.args.self.now in
-    ap Err c.placeless-wrong_set.ensures ∙ wrong_early s.port.profile s.list (port_fine s.port) (list_fine s) (sym c.follow_base.ensures ∙ c.in_default.is)
+    ap Err c.placeless-wrong_set.ensures ∙ wrong_early s.port.profile s.list.now (port_fine s.port) (list_fine s) (sym c.follow_base.ensures ∙ c.in_default.is)
 
 pub returns-then-base-self : goal.returns-then-base-self
 returns-then-base-self c =
     let s = c.args.self.now in
     c.judged.ensures
-    ∙ without_pps s.port.profile s.list (port_fine s.port) (list_fine s) _ (sym c.in-Some.ensures) c.if-base-self.true
+    ∙ without_pps s.port.profile s.list.now (port_fine s.port) (list_fine s) _ (sym c.in-Some.ensures) c.if-base-self.true
 
 pub follow_supplies-requires : goal.follow_supplies-requires
 follow_supplies-requires c = sym c.in-Some.ensures
@@ -35,13 +35,13 @@ returns-then-lt c =
     let s = c.args.self.now in
     let below : s.port.profile.present.0 < s.port.profile.max.0 = grind (arith, common_steps) in
     ap Err c.placeless-wrong_set.ensures
-    ∙ wrong_below s.port.profile s.list (port_fine s.port) (list_fine s) (misses (sym c.in-Some.ensures) c.if-base-self.false) below
+    ∙ wrong_below s.port.profile s.list.now (port_fine s.port) (list_fine s) (misses (sym c.in-Some.ensures) c.if-base-self.false) below
 
 pub returns-in_default-follow_supplies : goal.returns-in_default-follow_supplies
 returns-in_default-follow_supplies c =
     let s = c.args.self.now in
     ap Err c.placeless-wrong_set.ensures
-    ∙ wrong_late s.port.profile s.list (port_fine s.port) (list_fine s) (misses (sym c.in-Some.ensures) c.if-base-self.false)
+    ∙ wrong_late s.port.profile s.list.now (port_fine s.port) (list_fine s) (misses (sym c.in-Some.ensures) c.if-base-self.false)
     (sym c.follow_supplies.ensures ∙ c.in_default-follow_supplies.is)
 
 pub returns-then-full-self : goal.returns-then-full-self
@@ -49,11 +49,11 @@ returns-then-full-self c =
     let s = c.args.self.now in
     let whole : s.port.profile.max.0 ≤ s.port.profile.present.0 = grind (arith, common_steps) in
     c.judged-then-full-self.ensures
-    ∙ with_pps s.port.profile s.list (port_fine s.port) (list_fine s) _ whole (sym c.in-Some-follow_supplies.ensures) c.if-full-self.true
+    ∙ with_pps s.port.profile s.list.now (port_fine s.port) (list_fine s) _ whole (sym c.in-Some-follow_supplies.ensures) c.if-full-self.true
 
 pub returns : goal.returns
 returns c =
     let s = c.args.self.now in
     ap Err c.placeless-wrong_set.ensures
-    ∙ wrong_both s.port.profile s.list (port_fine s.port) (list_fine s) (misses (sym c.in-Some.ensures) c.if-base-self.false)
+    ∙ wrong_both s.port.profile s.list.now (port_fine s.port) (list_fine s) (misses (sym c.in-Some.ensures) c.if-base-self.false)
     (misses (sym c.in-Some-follow_supplies.ensures) c.if-full-self.false)
