@@ -18,8 +18,7 @@ const LIBRARY: [&str; 12] = [
 
 fn main() {
     println!("cargo::rerun-if-changed=build.rs");
-    println!("cargo::rerun-if-changed=build/refusals.rs");
-    println!("cargo::rerun-if-changed=build/strip.rs");
+    println!("cargo::rerun-if-changed=build");
     let root = root();
     let needs = read(&root.join("crates.txt"));
     let mut library = String::new();

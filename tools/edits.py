@@ -15,9 +15,10 @@ One file holds one or more wrong answers, which one run of the prover tries toge
 
 rt reads `file:`, `old:` and `new:`, and a `file:` line holds for the pairs after it. The other two are read here, and each
 wrong answer has its own `file:` line.
-`refused:` has every function whose own proof fails, and no function stands twice in a file. A function that calls such a one
-is not proved either, and is not named: the log says of it "it calls ..", and nothing fails in its own proof but the place
-where the proofs of what it calls come in. What else it has to prove is stated by contracts alone.
+`refused:` has every function whose own proof fails, and no function stands twice in a file. Each has the name that the prover gives it: a
+function of a module is `module::name`, a method `Type::name`, one of an impl of a trait `VerdictFromResultUnitVerdict::from`. A function that
+calls such a one is not proved either, and is not named: the log says of it "it calls ..", and nothing fails in its own proof but the place where
+the proofs of what it calls come in. What else it has to prove is stated by contracts alone.
 Wrong answers of one file are told apart by their functions alone. So one that changes a definition is tried by itself when it is
 written, and `refused:` then has every function that fails for it.
 

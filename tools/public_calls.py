@@ -3,9 +3,10 @@
 usage: python3 tools/public_calls.py [ROOT]
 
 A function is public when another crate can reach it: it stands in lib.rt, lib.rt has a `pub use module::name;` or
-`pub use module::{name, ..};` for it, or it is a method of a type that is public in this way. Programs, which have a main.rt, and the crates in
-EXEMPT are not asked. No crate can reach into a static library, NAME_c: its exports have to be the public functions of the library NAME, each with
-the arguments, the answer and the clauses that it has there.
+`pub use module::{name, ..};` for it, or it is a method of a type or a trait that is public in this way. A conversion to such a type, by From or
+TryFrom, needs no row: its ghost member has to be an equation, `λ a r. r ≡ ..`, which settles its answer by itself, or the promise of a public
+function of the crate, which has its row. Programs, which have a main.rt, and the crates in EXEMPT are not asked. No crate can reach into a static library, NAME_c: its exports have to be the public functions of the library
+NAME, each with the arguments, the answer and the clauses that it has there.
 Each public function has one row under "## Every public function":
 
     | `crate::name` or `crate::Type::name` | what it refuses, or "nothing" | outcome | refusals | unread places |
@@ -27,6 +28,10 @@ WITHDRAWN = "crates/demands/specs/Withdrawn.antt"
 HANDED = {"`lists::refuse`"}
 # DECISIONS, "Which functions have no contract that settles their answer?": what the programs print and take their lines apart with.
 EXEMPT = {"lines", "object_lines", "message_lines", "sink_lines", "summary_lines"}
+# A conversion has the whole of its answer in this member.
+CONVERSIONS = {"From": "from_gives", "TryFrom": "try_from_gives"}
+# Traits of the library of Rattle with no function that is a call of ours. A function of a trait of ours is asked at the trait.
+WITHOUT_CALLS = {"Model", "Debug", "Display", "Error"}
 COLUMNS = ("outcome", "refusals", "unread places")
 NAMES = re.compile(r"`[^`]+`(, `[^`]+`)*")
 REASON = re.compile(r"- \S.*")
@@ -67,7 +72,7 @@ def offered_by(source, place, faults):
     """What lib.rt offers by name: the types that stand there or in a module, and each `module::name` of its `pub use` lines."""
     types, uses = set(), set()
     for number, line in items_of(lines_of(source / "lib.rt")):
-        declared = re.match(r"pub (?:struct|enum) (\w+)", line)
+        declared = re.match(r"pub (?:struct|enum|trait) (\w+)", line)
         used = re.fullmatch(r"pub use (\w+)::(?:(\w+)|\{([\w, ]+)\});", line)
         if declared:
             types.add(declared[1])
@@ -81,7 +86,8 @@ def offered_by(source, place, faults):
 
 
 def head_of(lines):
-    """The lines of the function that stands first, up to its body: that begins at a brace of its signature, or at one below its clauses."""
+    """The lines of the function that stands first, up to its body: that begins at a brace of its signature, or at one below its clauses.
+    In a trait a semicolon may end it."""
     head, clauses = [], False
     for line in lines:
         clauses = clauses or re.match(r"\s*(requires|ensures)\b", line) is not None
@@ -90,6 +96,8 @@ def head_of(lines):
         if clauses and line.startswith(f"{' ' * (len(lines[0]) - len(lines[0].lstrip()))}{{"):
             return head
         head.append(line)
+        if line.endswith(";"):
+            break
     return head
 
 
@@ -98,31 +106,78 @@ def clauses_from(lines):
     return [match[1] for match in (re.match(r"\s*(requires|ensures)\b", line) for line in head_of(lines)) if match]
 
 
-def functions_in(path, place, faults):
-    """Each `pub fn` of a file: the type whose method it is, its name, its line, and its clauses."""
-    lines, owner = lines_of(path), None
-    for at, line in enumerate(lines):
-        method = re.fullmatch(r"impl (\w+) \{", line)
-        function = re.match(r"\s*pub (?:[\w\"]+ )*fn (\w+)", line)
-        if method:
-            owner = method[1]
+def block_of(line):
+    """What a block is of, whatever its parameters: its trait, or None, and its type. A trait is of itself. None for another line."""
+    line, before = line.replace("->", ""), None
+    while line != before:
+        line, before = re.sub(r"<[^<>]*>", "", line), line
+    match = re.fullmatch(r"impl (?:(?:\w+::)*(\w+) for )?(\w+)(?: where .*)? ?\{?\}?", line)
+    if match:
+        return match[1], match[2]
+    match = re.match(r"(?:pub(?:\(crate\))? )?trait (\w+)\b", line)
+    return (match[1], match[1]) if match else None
+
+
+def traits_in(source):
+    """The traits of a crate."""
+    found = (re.match(r"(?:pub(?:\(crate\))? )?trait (\w+)\b", line) for path in source.glob("*.rt") for line in lines_of(path))
+    return {match[1] for match in found if match}
+
+
+def blocks_in(path, place, traits, faults):
+    """Each line of a file with its number, and the trait and the type of the block that it stands in."""
+    trait = owner = None
+    for at, line in enumerate(lines_of(path), 1):
+        block = block_of(line)
+        if block:
+            trait, owner = block
+            if trait not in {None, *traits, *CONVERSIONS, *WITHOUT_CALLS}:
+                faults.append(f"{place}:{at}: a trait that is not known here: {line}")
         elif re.match(r"impl\b", line):
-            faults.append(f"{place}:{at + 1}: this form is not read here: {line}")
-        elif line == "}":
-            owner = None
-        elif function:
-            yield owner, function[1], at + 1, clauses_from(lines[at:])
+            faults.append(f"{place}:{at}: this form is not read here: {line}")
+        yield at, line, trait, owner
+        if line == "}" or block and line.endswith("}"):
+            trait = owner = None
 
 
-def public_functions(root, crate, faults):
-    """Each public function of a crate: its name, where it stands, and its clauses."""
+def functions_in(path, place, traits, faults):
+    """Each `pub fn` of a file, and each function of a trait: the type or trait that it is of, its name, its line, and its clauses."""
+    lines = lines_of(path)
+    for at, line, trait, owner in blocks_in(path, place, traits, faults):
+        function = re.match(r"\s*(pub )?(?:[\w\"]+ )*fn (\w+)", line)
+        if function and (function[1] or trait is not None and trait == owner):
+            yield owner, function[2], at, clauses_from(lines[at - 1 :])
+
+
+def conversions_in(path, place, types, traits, promises, faults):
+    """How many conversions to public types a file has: the answer of each is an equation, or one of these promises of public functions."""
+    lines, found = lines_of(path), 0
+    for at, line, trait, owner in blocks_in(path, place, traits, []):
+        if trait in CONVERSIONS and owner in types and block_of(line):
+            found += 1
+            rest = lines[at:]
+            block = " ".join(rest[: rest.index("}")])
+            promise = re.search(rf" ghost {CONVERSIONS[trait]} = {{ (\w+) }};", block)
+            equation = re.search(rf" ghost {CONVERSIONS[trait]} = {{ λ (\w+) (\w+)\. \2 ≡ (?:(?!\b\2\b)[^;])* }};", block)
+            if not equation and not (promise and promise[1] in promises):
+                faults.append(f"{place}:{at}: a conversion that no equation `ghost {CONVERSIONS[trait]} = {{ λ a r. r ≡ .. }};` settles: {line}")
+    return found
+
+
+def public_functions(root, crate, traits, faults):
+    """Each public function of a crate, its name, where it stands, and its clauses; and how many conversions. `traits` are those of all crates."""
     source, place = root / "crates" / crate / "src", f"crates/{crate}/src"
     types, uses = offered_by(source, place, faults)
+    found, promises, conversions = [], set(), 0
     for path in sorted(source.glob("*.rt")):
-        for owner, name, line, clauses in functions_in(path, f"{place}/{path.name}", faults):
+        for owner, name, line, clauses in functions_in(path, f"{place}/{path.name}", traits, faults):
             public = owner in types if owner else (path.stem == "lib" or f"{path.stem}::{name}" in uses)
             if public:
-                yield f"{crate}::{owner + '::' if owner else ''}{name}", f"{place}/{path.name}:{line}", clauses
+                found.append((f"{crate}::{owner + '::' if owner else ''}{name}", f"{place}/{path.name}:{line}", clauses))
+                promises.update(re.findall(r"\bensures \{ (\w+) ", " ".join(head_of(lines_of(path)[line - 1 :]))))
+    for path in sorted(source.glob("*.rt")):
+        conversions += conversions_in(path, f"{place}/{path.name}", types, traits, promises, faults)
+    return found, conversions
 
 
 def theorems_of(root):
@@ -271,8 +326,15 @@ def main(words):
     root = Path(words[0] if words else Path(__file__).parent.parent).resolve()
     faults, functions = [], {}
     libraries, static = crates_of(root, faults)
+    traits = {trait for crate in libraries for trait in traits_in(root / "crates" / crate / "src")}
+    conversions = 0
     for crate in libraries:
-        functions.update((name, (place, clauses)) for name, place, clauses in public_functions(root, crate, faults))
+        found, converted = public_functions(root, crate, traits, faults)
+        conversions += converted
+        for name, place, clauses in found:
+            if name in functions:
+                faults.append(f"{place}: {name} is another function too, at {functions[name][0]}")
+            functions[name] = (place, clauses)
     judge_contracts(functions, faults)
     named = judge_table(root, functions, faults)
     exported = judge_exports(root, static, functions, faults)
@@ -280,7 +342,10 @@ def main(words):
         print(fault, file=sys.stderr)
     if faults:
         return 1
-    print(f"public: {len(functions)} functions, each with its theorems ({len(named)} theorems), and {exported} exports with the clauses of theirs")
+    print(
+        f"public: {len(functions)} functions, each with its theorems ({len(named)} theorems), {exported} exports with the clauses of theirs, "
+        f"and {conversions} conversions, each by an equation"
+    )
     return 0
 
 

@@ -1,116 +1,56 @@
 // From Rattle to Rust: what only the prover reads is taken away. Everything else is copied as it stands, but for what `Stripped` lists.
 // A form that is not known here is an error with its line, never a guess.
 
+#[path = "ghost.rs"]
+mod ghost;
+#[path = "marks.rs"]
+pub mod marks;
+#[path = "text.rs"]
+mod text;
+
+use ghost::GHOST;
+use text::{bracketed, generics, is_clause, is_word, line_of, word_of};
+
 /// One source file as Rust. Beside the ghost text that is gone, these differ from the file:
 /// - a comment right above an item, and one above a field or a variant, is a doc comment, and the one at the head of the file is the
-///   module's;
-/// - structs and enums, which derive `Clone` and `Copy` in the source, derive `PartialEq`, `Eq`, `Hash` and `Debug` too, which those in
-///   `DEBUG_BY_HAND` do not, and some `Default` or an order (`ZERO_BY_DEFAULT`, `ORDERED`);
+///   module's; one right above ghost text goes with it;
+/// - structs and enums derive `PartialEq`, `Eq`, `Hash` and `Debug` beside what they derive in the source, and some `Default` or an order
+///   (`build/marks.rs`);
 /// - a public function that returns something is marked `#[must_use]`: a verdict that nobody looks at is a slip;
-/// - `crate::` names the Rattle crate, which is a module here;
+/// - `crate::` names the Rattle crate, which is a module here, and `std::` is `core::`;
 /// - functions are marked `#[inline]`: most are a few lines, and rustc looks into those of another package only where they are marked;
 /// - a struct of one number is `#[repr(transparent)]` and not `#[repr(C)]`: the same bytes, but handed on as the number itself;
 /// - `#[unsafe(no_mangle)]` and `extern "C"` are gone: `rust/c` has the C names;
-/// - what says which tactics the prover tries is gone, and so is a `prove!(..);`, which costs nothing when it runs.
+/// - what says which tactics the prover tries is gone, and so is a `prove!(..);`, which costs nothing when it runs;
+/// - an `impl Model`, which is ghost alone, is gone.
 pub struct Stripped {
     pub text: String,
     /// The modules that the file declares. Each stands in the text as a line `mod NAME;`.
     pub modules: Vec<String>,
 }
 
-/// Words are shown in hex, which no derive does: `rust/src/words.rs` has these.
-const DEBUG_BY_HAND: [&str; 4] = [
-    "lists::Words",
-    "objects::Encoded",
-    "rules::Placed",
-    "messages::Message",
-];
-
-/// All zero is what an empty list, an empty place, the summary of no list, no request, no message or a row before set-up has, and a measure of
-/// nothing. A profile that is all zero is refused, so it has no default. `rust/src/defaults.rs` has that of an object, of either side.
-const ZERO_BY_DEFAULT: [&str; 21] = [
-    "verdicts::Verdict",
-    "steps::Mv20",
-    "steps::Mv25",
-    "steps::Mv50",
-    "steps::Mv100",
-    "steps::Ma10",
-    "steps::Ma50",
-    "steps::Mw250",
-    "steps::HalfWatts",
-    "lists::Words",
-    "lists::Place",
-    "lists::Objects",
-    "summaries::Summary",
-    "messages::Header",
-    "messages::Message",
-    "sinks::SinkPlace",
-    "sinks::SinkObjects",
-    "ports::Row",
-    "flat::FlatObject",
-    "flat::FlatObjects",
-    "flat::FlatRequest",
-];
-
-/// Measures, and what somebody may want to keep sorted. An answer is neither.
-const ORDERED: [&str; 17] = [
-    "verdicts::Verdict",
-    "steps::Mv20",
-    "steps::Mv25",
-    "steps::Mv50",
-    "steps::Mv100",
-    "steps::Ma10",
-    "steps::Ma50",
-    "steps::Mw250",
-    "steps::HalfWatts",
-    "objects::Object",
-    "lists::Words",
-    "rules::Profile",
-    "messages::Header",
-    "messages::Message",
-    "sinks::SinkObject",
-    "ports::Row",
-    "flat::FlatObject",
-];
-
-const MUST_USE: &str = "#[must_use]\n";
-
-const INLINE: &str = "#[inline]\n";
-
-const INLINE_ALWAYS: &str = "#[inline(always)]\n";
-
-const INLINE_NEVER: &str = "#[inline(never)]\n";
-
-/// A function that is given the side of a list is put into its callers, which know the side: rustc then makes one of it for each side.
-const BY_SIDE: &str = "side: Side";
-
-/// Kept whole: in the midst of its callers the shape check of each side makes them longer and slower, and a row of a summary is read there
-/// from a copy of all seven.
-const WHOLE: [&str; 3] = ["lists::shape", "lists::shape_sink", "summaries::row_at"];
-
-/// Put into their callers too: these take an object or a decoded request that the caller has just made, or make one that it takes apart.
-const OBJECTS_AND_WORDS: [&str; 8] = [
-    "objects::decode_sink",
-    "objects::encode",
-    "requests::take_apart",
-    "sinks::sink_decode",
-    "summaries::answer_summary",
-    "summaries::sorted",
-    "summaries::take_request",
-    "flat::flatten_request",
-];
-
 const REPR_C: &str = "#[repr(C)]\n";
 
-/// What every struct and enum of ours derives in Rattle.
-const DERIVED: &str = "#[derive(Clone, Copy)]\n";
+const DERIVE: &str = "#[derive(";
+
+const DEFAULT: &str = "#[default]\n";
 
 const EXPORTED: &str = "#[unsafe(no_mangle)]\n";
 
 const TRANSPARENT: &str = "#[repr(transparent)]\n";
 
-/// Words of contracts and proofs that may stand inside a body; none of ours has one.
-const GHOST_WORDS: [&str; 8] = [
+const PROVED: &str = "const _: () = prove!(";
+
+const MODEL: &str = "Model";
+
+/// In Rattle a formatter has the type of what it writes to.
+const FORMATTER: (&str, &str) = (
+    "fn fmt<W: fmt::Write>(&self, f: &mut fmt::Formatter<W>) -> fmt::Result",
+    "fn fmt(&self, f: &mut fmt::Formatter) -> fmt::Result",
+);
+
+/// Words of contracts and proofs that may stand inside a body, and are not known there.
+const GHOST_WORDS: [&str; 9] = [
     "ghost",
     "requires",
     "ensures",
@@ -119,34 +59,53 @@ const GHOST_WORDS: [&str; 8] = [
     "assert",
     "proof",
     "unsafe",
+    // A bound that means another thing in Rust.
+    "Drop",
 ];
+
+/// Macros that are the same in Rust.
+const MACROS: [&str; 2] = ["matches", "write"];
 
 pub fn strip(file: &str, krate: &str, source: &str) -> Result<Stripped, String> {
     let mut reader = Reader {
         file,
         krate,
+        source,
         rest: source,
         line: 1,
         out: String::new(),
         modules: Vec::new(),
+        derived: Vec::new(),
         indent: 0,
     };
     reader.head()?;
-    reader.items(true)?;
+    reader.items(&Scope::File)?;
     Ok(Stripped {
         text: reader.out,
         modules: reader.modules,
     })
 }
 
+/// Where an item stands.
+#[derive(PartialEq)]
+enum Scope<'a> {
+    File,
+    // The type that the block is of.
+    Impl(&'a str),
+    Trait { name: &'a str, public: bool },
+}
+
 struct Reader<'a> {
     file: &'a str,
     krate: &'a str,
+    source: &'a str,
     rest: &'a str,
     line: usize,
     out: String,
     modules: Vec<String>,
-    // Of the function that is read.
+    // What the type that comes next derives in the source.
+    derived: Vec<&'a str>,
+    // Of the function or the closure that is read.
     indent: usize,
 }
 
@@ -170,8 +129,7 @@ impl<'a> Reader<'a> {
     }
 
     fn word(&self) -> &'a str {
-        let end = self.rest.find(|c: char| !is_word(c));
-        &self.rest[..end.unwrap_or(self.rest.len())]
+        word_of(self.rest)
     }
 
     // Spaces of ASCII alone: any other is a sign that is not known.
@@ -181,7 +139,14 @@ impl<'a> Reader<'a> {
     }
 
     fn line_length(&self) -> usize {
-        self.rest.find('\n').map_or(self.rest.len(), |at| at + 1)
+        line_of(self.rest).len()
+    }
+
+    // The spaces that stand before the next sign, where it is the first of its line.
+    fn indent_here(&self) -> Option<usize> {
+        let before = self.out.trim_end_matches(' ');
+        let first = before.is_empty() || before.ends_with('\n');
+        first.then_some(self.out.len() - before.len())
     }
 
     // The comment at the head of a file is the module's own.
@@ -197,8 +162,7 @@ impl<'a> Reader<'a> {
 
     // Behind code on its line, a doc comment would go to what comes next.
     fn comment(&mut self, mark: &str) -> Result<(), String> {
-        let before = self.out.trim_end_matches(' ');
-        if mark != "//" && !before.is_empty() && !before.ends_with('\n') {
+        if mark != "//" && self.indent_here().is_none() {
             return self.fail("a comment behind code");
         }
         let n = self.line_length();
@@ -218,10 +182,11 @@ impl<'a> Reader<'a> {
     }
 
     // Items up to the end of the file, or of the block that they stand in.
-    fn items(&mut self, whole_file: bool) -> Result<(), String> {
+    fn items(&mut self, scope: &Scope) -> Result<(), String> {
         loop {
             let n = self.space();
             self.copy(n);
+            let whole_file = *scope == Scope::File;
             if self.rest.is_empty() {
                 return if whole_file {
                     Ok(())
@@ -233,11 +198,11 @@ impl<'a> Reader<'a> {
                 self.copy(1);
                 return Ok(());
             }
-            self.item()?;
+            self.item(scope)?;
         }
     }
 
-    fn item(&mut self) -> Result<(), String> {
+    fn item(&mut self, scope: &Scope) -> Result<(), String> {
         if self.rest.starts_with("//") {
             return self.comment(self.mark());
         }
@@ -248,15 +213,11 @@ impl<'a> Reader<'a> {
             self.take(EXPORTED.len());
             return Ok(());
         }
-        if let Some(behind) = self.rest.strip_prefix(DERIVED) {
-            if !is_type(behind.strip_prefix(REPR_C).unwrap_or(behind)) {
-                return self.fail("a derive without its type");
-            }
-            self.take(DERIVED.len());
-            return Ok(());
+        if self.rest.starts_with(DERIVE) {
+            return self.derives();
         }
         if let Some(behind) = self.rest.strip_prefix(REPR_C) {
-            let behind = behind.strip_prefix(DERIVED).unwrap_or(behind);
+            let behind = &behind[derive_length(behind).unwrap_or(0)..];
             if is_one_number(behind.lines().next().unwrap_or("")) {
                 self.take(REPR_C.len());
                 self.out.push_str(TRANSPARENT);
@@ -268,6 +229,16 @@ impl<'a> Reader<'a> {
         if self.rest.starts_with("ghost use ") {
             return self.ghost_use();
         }
+        if self.rest.starts_with(PROVED) {
+            let Some(n) = self.proved(PROVED.len() - 1) else {
+                return self.fail("a proved condition is no line of its own");
+            };
+            self.forget(n);
+            return Ok(());
+        }
+        if *scope != Scope::File && self.rest.starts_with("ghost ") {
+            return self.ghost_member(";");
+        }
         let visible = ["pub(crate) ", "pub "]
             .into_iter()
             .find(|v| self.rest.starts_with(v))
@@ -275,59 +246,53 @@ impl<'a> Reader<'a> {
         self.take(visible.len());
         match self.word() {
             "struct" | "enum" => self.type_item(visible),
-            "use" | "const" if !self.rest.starts_with("const fn ") => {
+            "use" if self.rest.starts_with("use std::marker::") => self.use_marker(visible),
+            "use" | "type" => {
+                self.out.push_str(visible);
+                self.statement()
+            }
+            "const" if !self.rest.starts_with("const fn ") => {
                 self.out.push_str(visible);
                 self.statement()
             }
             "mod" if visible.is_empty() => self.module(),
-            "impl" if visible.is_empty() => {
-                self.through('{')?;
-                self.items(false)
-            }
+            "impl" if visible.is_empty() => self.impl_block(),
+            "trait" => self.trait_block(visible),
             "extern" => {
                 if !self.rest.starts_with("extern \"C\" fn ") {
                     return self.fail("an unknown item");
                 }
                 self.take("extern \"C\" ".len());
-                self.function(visible)
+                self.function(visible, scope)
             }
-            "fn" => self.function(visible),
+            "fn" => self.function(visible, scope),
             _ => self.fail("an unknown item"),
         }
     }
 
-    // One line, and nothing but it: a later semicolon is that of another item, which has to stay. Or a group with a line for each name, and a
-    // last line that only ends it.
-    fn ghost_use(&mut self) -> Result<(), String> {
-        let mut n = self.line_length();
-        let line = self.rest[..n].trim_end();
-        if line.ends_with('{') && !line.contains(';') {
-            while self.rest[n..].starts_with("  ") && !line_of(&self.rest[n..]).contains(';') {
-                n += line_of(&self.rest[n..]).len();
-            }
-            if self.rest[n..].starts_with("};\n") {
-                self.take(n + "};\n".len());
-                return Ok(());
-            }
-        }
-        if line.find(';') != Some(line.len() - 1) {
-            return self.fail("a ghost use does not end with its line");
-        }
-        self.take(n);
-        Ok(())
-    }
-
-    // `#![tactic(..)]` of a file or `#[tactic(..)]` of a function, on a line of its own.
-    fn tactics(&mut self) -> Result<(), String> {
-        let n = self.line_length();
-        let line = self.rest[..n].trim_end();
-        if line.find(']') != Some(line.len() - 1) || !line.ends_with(")]") {
+    // `#[derive(A, B)]`, on one line or several.
+    fn derives(&mut self) -> Result<(), String> {
+        let Some(n) = derive_length(self.rest) else {
             return self.fail("an attribute does not end with its line");
+        };
+        let (derive, behind) = self.rest.split_at(n);
+        if !is_type(behind.strip_prefix(REPR_C).unwrap_or(behind)) || !self.derived.is_empty() {
+            return self.fail("a derive without its type");
         }
+        let names = derive[DERIVE.len()..]
+            .trim_end()
+            .trim_end_matches(")]")
+            .trim();
+        let names: Vec<&str> = names
+            .trim_end_matches(',')
+            .split(',')
+            .map(str::trim)
+            .collect();
+        if !names.iter().all(|it| marks::is_derived(it)) {
+            return self.fail("an unknown derive");
+        }
+        self.derived = names;
         self.take(n);
-        // The indentation of the line is copied already: that of the next one comes now.
-        let indent = self.out.len() - self.out.trim_end_matches(' ').len();
-        self.out.truncate(self.out.len() - indent);
         Ok(())
     }
 
@@ -345,11 +310,65 @@ impl<'a> Reader<'a> {
         Ok(())
     }
 
+    // `Model` is the prover's alone. What else is named beside it stays.
+    fn use_marker(&mut self, visible: &str) -> Result<(), String> {
+        let n = self.line_length();
+        let line = self.rest[..n].trim_end();
+        let names = line
+            .strip_prefix("use std::marker::")
+            .and_then(|l| l.strip_suffix(';'));
+        let names = names.unwrap_or("").trim_matches(['{', '}']);
+        let kept: Vec<&str> = names.split(", ").filter(|it| *it != MODEL).collect();
+        if !visible.is_empty() || kept.iter().any(|it| *it != "PhantomData") {
+            return self.fail("an unknown marker");
+        }
+        if kept.is_empty() {
+            self.forget(n);
+            return Ok(());
+        }
+        self.take(n);
+        self.out.push_str("use core::marker::PhantomData;\n");
+        Ok(())
+    }
+
+    fn impl_block(&mut self) -> Result<(), String> {
+        let Some(end) = self.rest.find('{') else {
+            return self.fail("something is missing at the end");
+        };
+        let header = self.rest["impl".len()..end].trim_start();
+        let header = &header[generics(header)..].trim_start();
+        let (of, name) = header.split_once(" for ").unwrap_or(("", header));
+        if of == MODEL {
+            return self.model();
+        }
+        self.code(end + 1)?;
+        self.items(&Scope::Impl(word_of(name)))
+    }
+
+    fn trait_block(&mut self, visible: &str) -> Result<(), String> {
+        self.out.push_str(visible);
+        let name = word_of(self.rest["trait".len()..].trim_start());
+        self.through('{')?;
+        self.items(&Scope::Trait {
+            name,
+            public: visible == "pub ",
+        })
+    }
+
     fn type_item(&mut self, visible: &str) -> Result<(), String> {
         // A derive stands behind the attribute, if there is one, and before the item.
         let name = self.rest.split(|c| !is_word(c)).nth(1).unwrap_or("");
-        self.out
-            .push_str(&derive(&format!("{}::{name}", self.krate)));
+        let source = self.source;
+        let by_hand = |of: &str| {
+            let traits = [format!(" {of} for {name}"), format!("::{of} for {name}")];
+            let behind = traits
+                .iter()
+                .filter_map(|it| source.split_once(it.as_str()));
+            behind.into_iter().any(|it| !it.1.starts_with(is_word))
+        };
+        let derived = std::mem::take(&mut self.derived);
+        let path = format!("{}::{name}", self.krate);
+        self.out.push_str(&marks::derive(&path, &derived, by_hand));
         self.out.push_str(visible);
         let Some(end) = self.rest.find(['{', ';']) else {
             return self.fail("a type has no end");
@@ -358,7 +377,7 @@ impl<'a> Reader<'a> {
             return self.statement();
         }
         self.code(end)?;
-        self.block("///")
+        self.block(true)
     }
 
     // Through the next semicolon that stands in no bracket.
@@ -383,50 +402,82 @@ impl<'a> Reader<'a> {
     }
 
     // The signature, the contract, which goes, and the body.
-    fn function(&mut self, visible: &str) -> Result<(), String> {
-        let indent = self.out.len() - self.out.trim_end_matches(' ').len();
-        self.indent = indent;
-        let (given, behind) = self.rest.split_once(')').unwrap_or(("", ""));
-        let name = given.split(|c| !is_word(c)).nth(1).unwrap_or("");
-        let known = format!("{}::{name}", self.krate);
-        let known = known.as_str();
-        let inline = if WHOLE.contains(&known) {
-            INLINE_NEVER
-        } else if given.contains(BY_SIDE) || OBJECTS_AND_WORDS.contains(&known) {
-            INLINE_ALWAYS
-        } else {
-            INLINE
+    fn function(&mut self, visible: &str, scope: &Scope) -> Result<(), String> {
+        let Some(indent) = self.indent_here() else {
+            return self.fail("a function behind code");
         };
-        let mut marks = vec![inline];
-        if visible == "pub " && behind.trim_start().starts_with("->") {
-            marks.insert(0, MUST_USE);
-        }
-        for mark in marks {
-            self.out.push_str(mark);
-            self.out.push_str(&" ".repeat(indent));
-        }
+        self.indent = indent;
+        let (begin, at) = (self.out.len(), self.rest);
         self.out.push_str(visible);
-        self.through('(')?;
-        self.through(')')?;
+        let named = self.rest["fn".len()..].trim_start();
+        let name = word_of(named);
+        let open = self.rest.len() - named.len() + name.len();
+        let open = open + generics(&self.rest[open..]);
+        let Some(closed) =
+            bracketed(&self.rest[open..]).filter(|_| self.rest[open..].starts_with('('))
+        else {
+            return self.fail("something is missing at the end");
+        };
+        let given = &at[open..open + closed];
+        if self.rest.starts_with(FORMATTER.0) {
+            self.take(FORMATTER.0.len());
+            self.out.push_str(FORMATTER.1);
+        } else {
+            self.code(open + closed)?;
+        }
+        let gives = at[open + closed..]
+            .trim_start()
+            .strip_prefix("->")
+            .unwrap_or("")
+            .trim_start();
+        self.signature()?;
+        let has_body = self.contract(scope)?;
+        let (owner, public) = match scope {
+            Scope::File => ("", visible == "pub "),
+            Scope::Impl(name) => (*name, visible == "pub "),
+            Scope::Trait { name, public } => (*name, *public),
+        };
+        let path = [self.krate, owner, name];
+        let path: Vec<&str> = path.into_iter().filter(|it| !it.is_empty()).collect();
+        for mark in marks::marks(&path.join("::"), given, gives, public, has_body)
+            .iter()
+            .rev()
+        {
+            let line = format!("{mark}\n{}", " ".repeat(indent));
+            self.out.insert_str(begin, &line);
+        }
+        if has_body {
+            self.block(false)
+        } else {
+            self.copy(1);
+            Ok(())
+        }
+    }
+
+    // What a function gives, and its bounds.
+    fn signature(&mut self) -> Result<(), String> {
+        let mut depth = 0;
         loop {
             let n = self.space();
-            match self.rest[n..].split(|c| !is_word(c)).next() {
-                Some("requires" | "ensures") => {
-                    self.take(n);
-                    self.clause()?;
-                    continue;
-                }
-                _ => self.copy(n),
-            }
-            let Some(c) = self.rest.chars().next() else {
+            let behind = &self.rest[n..];
+            let Some(c) = behind.chars().next() else {
+                self.copy(n);
                 return self.fail("a function has no body");
             };
-            if c == '{' {
-                return self.block("//");
+            match c {
+                '{' => return Ok(()),
+                ';' if depth == 0 => return Ok(()),
+                '(' | '[' => depth += 1,
+                ')' | ']' => depth -= 1,
+                _ => {}
             }
+            if is_clause(behind) || behind.starts_with("//") {
+                return Ok(());
+            }
+            self.copy(n);
             if self.rest.starts_with("->") {
                 self.copy(2);
-            } else if is_word(c) || "&[]; ".contains(c) {
+            } else if is_word(c) || "&[];()<>,:+='?".contains(c) {
                 self.one(c, "//")?;
             } else {
                 return self.fail("an unknown form of signature");
@@ -434,48 +485,19 @@ impl<'a> Reader<'a> {
         }
     }
 
-    // `requires { .. }` or `ensures NAME { .. }`, on one line, or with further lines that are indented more: a brace that is missing can take no
-    // code along.
-    fn clause(&mut self) -> Result<(), String> {
-        let mut n = self.line_length();
-        let line = self.rest[..n].trim_end();
-        let Some(open) = line.find('{') else {
-            return self.fail("a clause has no braces");
-        };
-        if !line[..open].chars().all(|c| is_word(c) || c == ' ') {
-            return self.fail("an unknown form of clause");
-        }
-        let deeper = format!("{}     ", " ".repeat(self.indent));
-        while self.rest[n..].starts_with(&deeper) {
-            n += line_of(&self.rest[n..]).len();
-        }
-        let clause = self.rest[..n].trim_end();
-        if clause.contains('\n') && clause.contains("//") {
-            return self.fail("a comment in a clause of several lines");
-        }
-        let mut depth = 0;
-        for (at, c) in clause.char_indices().filter(|(at, _)| *at >= open) {
-            match c {
-                '{' => depth += 1,
-                '}' => depth -= 1,
-                _ => {}
-            }
-            if depth == 0 && at + 1 < clause.len() {
-                return self.fail("a clause does not end with its line");
-            }
-        }
-        if depth != 0 {
-            return self.fail("a clause does not end with its line");
-        }
-        self.take(clause.len());
-        Ok(())
-    }
-
-    // A block in braces. Its comments get this mark.
-    fn block(&mut self, mark: &str) -> Result<(), String> {
+    // A block in braces: of a type, whose comments are doc comments, or of code.
+    fn block(&mut self, of_type: bool) -> Result<(), String> {
         let begin = self.line;
         let mut depth = 0;
         loop {
+            if of_type && GHOST.iter().any(|it| self.rest.starts_with(it)) {
+                self.ghost_member(",")?;
+                continue;
+            }
+            if of_type && self.rest.starts_with(DEFAULT) {
+                self.copy(DEFAULT.len());
+                continue;
+            }
             let Some(c) = self.rest.chars().next() else {
                 self.line = begin;
                 return self.fail("a block has no end");
@@ -485,7 +507,7 @@ impl<'a> Reader<'a> {
                 '}' => depth -= 1,
                 _ => {}
             }
-            self.one(c, mark)?;
+            self.one(c, if of_type { "///" } else { "//" })?;
             if depth == 0 {
                 return Ok(());
             }
@@ -508,7 +530,7 @@ impl<'a> Reader<'a> {
         Ok(())
     }
 
-    // One word, one comment or one sign of Rust.
+    // One word, one comment, one text in quotes, one lifetime or one sign of Rust.
     fn one(&mut self, c: char, mark: &str) -> Result<(), String> {
         if self.rest.starts_with("//") {
             return self.comment(mark);
@@ -516,41 +538,58 @@ impl<'a> Reader<'a> {
         if is_word(c) {
             return self.code_word();
         }
-        if !c.is_ascii() || "\"'\\`@$?#~".contains(c) || self.rest.starts_with("/*") {
+        if c == '"' || c == '\'' {
+            return self.quoted(c);
+        }
+        if !c.is_ascii() || "\\`@$#~".contains(c) || self.rest.starts_with("/*") {
             return self.fail("a sign that is not known in code");
         }
         self.copy(c.len_utf8());
         Ok(())
     }
 
-    // `prove!(..);`, a statement on a line of its own.
-    fn proved(&mut self) -> Result<(), String> {
-        let n = self.line_length();
-        let indent = self.out.len() - self.out.trim_end_matches(' ').len();
-        let alone = self.out[..self.out.len() - indent].ends_with('\n');
-        let line = self.rest[..n].trim_end();
-        if !alone || !line.ends_with(");") || line.find(';') != Some(line.len() - 1) {
-            return self.fail("a proved condition is no line of its own");
-        }
-        self.take(n);
-        self.out.truncate(self.out.len() - indent);
+    // A text on one line without a backslash, one sign of ASCII, or a lifetime or label.
+    fn quoted(&mut self, quote: char) -> Result<(), String> {
+        let inside = &self.rest[1..];
+        let n = match inside.find([quote, '\\', '\n']) {
+            Some(at) if quote == '"' && inside[at..].starts_with('"') => at + 2,
+            Some(1) if quote == '\'' && inside[1..].starts_with('\'') => 3,
+            _ if quote == '\'' && !word_of(inside).is_empty() => 1 + word_of(inside).len(),
+            _ => return self.fail("a sign that is not known in code"),
+        };
+        self.copy(n);
         Ok(())
     }
 
     fn code_word(&mut self) -> Result<(), String> {
         let word = self.word();
+        if is_clause(self.rest) {
+            return self.closure();
+        }
         if GHOST_WORDS.contains(&word) {
             return self.fail("ghost text where none is known");
         }
         let behind = &self.rest[word.len()..];
         if word == "prove" && behind.starts_with("!(") {
-            return self.proved();
+            let Some(n) = self.proved("prove!".len()) else {
+                return self.fail("a proved condition is no line of its own");
+            };
+            let indent = self.indent_here().unwrap_or(0);
+            self.take(n);
+            self.out.truncate(self.out.len() - indent);
+            return Ok(());
         }
-        if behind.starts_with('!') && !behind.starts_with("!=") {
+        let is_macro = behind.starts_with('!') && !behind.starts_with("!=");
+        if is_macro && !(MACROS.contains(&word) && behind.starts_with("!(")) {
             return self.fail("a macro");
         }
         if word == "crate" && !behind.starts_with("::") && !behind.starts_with(')') {
             return self.fail("an unknown form of path");
+        }
+        if word == "std" && behind.starts_with("::") {
+            self.take(word.len());
+            self.out.push_str("core");
+            return Ok(());
         }
         self.copy(word.len());
         if word == "crate" && behind.starts_with("::") {
@@ -570,31 +609,13 @@ fn is_type(text: &str) -> bool {
     item.starts_with("struct ") || item.starts_with("enum ")
 }
 
-// The first line, with its end.
-fn line_of(text: &str) -> &str {
-    text.split_inclusive('\n').next().unwrap_or("")
-}
-
-// Of a type by its crate and name.
-fn derive(name: &str) -> String {
-    let mut traits = vec!["Clone", "Copy", "PartialEq", "Eq", "Hash"];
-    if !DEBUG_BY_HAND.contains(&name) {
-        traits.push("Debug");
-    }
-    if ZERO_BY_DEFAULT.contains(&name) {
-        traits.push("Default");
-    }
-    if ORDERED.contains(&name) {
-        traits.extend(["PartialOrd", "Ord"]);
-    }
-    format!("#[derive({})]\n", traits.join(", "))
-}
-
 // As `pub struct Mv50(pub u16);`.
 fn is_one_number(line: &str) -> bool {
     line.starts_with("pub struct ") && line.ends_with("(pub u16);")
 }
 
-fn is_word(c: char) -> bool {
-    c.is_ascii_alphanumeric() || c == '_'
+// How long the derive is that begins here, with the end of its last line.
+fn derive_length(text: &str) -> Option<usize> {
+    let end = text.strip_prefix(DERIVE)?.find(')')? + DERIVE.len();
+    text[end..].starts_with(")]\n").then_some(end + 3)
 }

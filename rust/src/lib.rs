@@ -12,15 +12,18 @@
 //! # Refusals
 //!
 //! A call answers a [`verdicts::Verdict`], a number and a place, or a struct with a verdict beside the value. `ok` makes a `Result` of
-//! either, whose error is a [`Refusal`]: it says its sentence, and it is never a success.
+//! either, whose error is a [`Refusal`]: it says its sentence, and it is never a success. A call that gives a `Result` itself has the verdict as
+//! its error, which `?` turns into a `Refusal`. What is refused for one reason alone is an `Option`: `ok_or` says the refusal there.
 //!
 //! ```
 //! use arinduleu::board::{arin_attach, arin_remaining, arin_request, arin_set_up};
 //! use arinduleu::messages::{read_message, write_message, Header, Message, LONGEST_MESSAGE, REQUEST};
+//! use arinduleu::objects::{decode, Object};
 //! use arinduleu::ports::Row;
 //! use arinduleu::rules::{build, default_profile, Profile};
 //! use arinduleu::sinks::{sink_check, sink_write, SinkObject, SinkObjects};
 //! use arinduleu::steps::{HalfWatts, Ma10, Mv50};
+//! use arinduleu::verdicts::{Verdict, KIND_NOT_ALLOWED};
 //! use arinduleu::{requests, Refusal};
 //!
 //! fn main() -> Result<(), Refusal> {
@@ -28,6 +31,11 @@
 //!     let default = default_profile(HalfWatts(72)).ok()?;
 //!     let list = build(Profile { pps: 1, ..default }).ok()?;
 //!     assert_eq!(list.as_slice()[0], 0x0001_912C);
+//!
+//!     // Its third object: 15 V at 2.4 A. A word of no kind that such a list holds is none, and refusal 12 for whoever wants one.
+//!     let object = decode(list.as_slice()[2]).ok_or(Verdict::placeless(KIND_NOT_ALLOWED))?;
+//!     assert!(matches!(object, Object::Fixed { volts: Mv50(300), current: Ma10(240), .. }));
+//!     assert_eq!(decode(0xF000_0000), None);
 //!
 //!     // 3 A of the object at position 1, and then of one that the list does not have.
 //!     requests::answer(list, 0x1004_B12C).ok()?;
@@ -81,7 +89,7 @@
 //! ```
 //! use arinduleu::rules::{build, default_profile, Profile};
 //! use arinduleu::steps::{HalfWatts, Ma10};
-//! use arinduleu::summaries::{answer_summary, summarize, take_request, ABOVE_15_V, BELOW_15_V, HIGHEST};
+//! use arinduleu::summaries::{answer_summary, summarize, take_request, TakenRequest, ABOVE_15_V, BELOW_15_V, HIGHEST};
 //! use arinduleu::{requests, verdicts, Refusal};
 //!
 //! fn main() -> Result<(), Refusal> {
@@ -95,9 +103,9 @@
 //!     assert_eq!(avs, [9000, 20000, 3000, 3250]);
 //!     assert_eq!((avs[HIGHEST], avs[BELOW_15_V], avs[ABOVE_15_V]), (20000, 3000, 3250));
 //!
-//!     let answer = |word| match take_request(list, word).ok()? {
-//!         Some(asked) => answer_summary(summary, asked).ok(),
-//!         None => requests::answer(list, word).ok(),
+//!     let answer = |word| match take_request(list, word)? {
+//!         TakenRequest::Quick(asked) => answer_summary(summary, asked).ok(),
+//!         TakenRequest::Battery { .. } => requests::answer(list, word).ok(),
 //!     };
 //!     // Of AVS 15.0 V at 3.25 A, where the larger of the two currents limits; then 3.30 A.
 //!     answer(0x5004_B041)?;
@@ -109,11 +117,11 @@
 //!
 //! # Traits
 //!
-//! Every type can be copied, compared, hashed and shown; words are shown in hex. `Default` is all zero: success, an empty list or place, the
-//! summary of no list, no request, no message, a row before set-up, a measure of nothing. [`rules::Profile`] has none, since one that is all
-//! zero is refused: see [`rules::default_profile`]. Measures are ordered by what they measure, verdicts and refusals by number and then by
-//! place. The order of profiles, rows, objects of either side, lists of words and messages goes by their fields as they are declared: it is
-//! for sorted collections, and says nothing of which is better.
+//! Every type can be copied, compared, hashed and shown; the words of a list and of a message are shown in hex. `Default` is all zero: success,
+//! an empty list or place, the summary of no list, no request, no message, a row before set-up, a measure of nothing. [`rules::Profile`] has
+//! none, since one that is all zero is refused: see [`rules::default_profile`]. Measures are ordered by what they measure, verdicts and
+//! refusals by number and then by place. The order of profiles, rows, objects of either side, lists of words and messages goes by their fields
+//! as they are declared: it is for sorted collections, and says nothing of which is better.
 #![no_std]
 #![forbid(unsafe_code)]
 #![deny(missing_docs, rustdoc::broken_intra_doc_links)]
@@ -121,10 +129,9 @@
 #![allow(unused_variables)]
 // The source is written for the prover, and stays as it is.
 #![allow(
-    clippy::collapsible_if,
     clippy::manual_checked_ops,
-    clippy::manual_is_multiple_of,
-    clippy::too_many_arguments
+    clippy::manual_range_contains,
+    clippy::needless_range_loop
 )]
 
 mod defaults;

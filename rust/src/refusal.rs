@@ -83,6 +83,17 @@ impl fmt::Debug for Refusal {
 
 impl Error for Refusal {}
 
+/// The error of a call that gives a `Result` of its own, so that `?` turns it into a refusal. A verdict that is a success, which no call has as its
+/// error, is refusal 255: it has no sentence, and it is no success either.
+impl From<Verdict> for Refusal {
+    fn from(verdict: Verdict) -> Refusal {
+        Refusal {
+            number: NonZeroU8::new(verdict.number).unwrap_or(NonZeroU8::MAX),
+            place: verdict.place,
+        }
+    }
+}
+
 impl From<Refusal> for Verdict {
     fn from(refusal: Refusal) -> Verdict {
         Verdict {

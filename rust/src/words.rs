@@ -2,8 +2,6 @@
 
 use crate::lists::Words;
 use crate::messages::Message;
-use crate::objects::Encoded;
-use crate::rules::Placed;
 use core::fmt::{Debug, Formatter, Result};
 
 struct Hex(u32);
@@ -31,23 +29,5 @@ impl Debug for Message {
             .field("header", &self.header)
             .field("words", &self.words.map(Hex))
             .finish()
-    }
-}
-
-impl Debug for Encoded {
-    fn fmt(&self, f: &mut Formatter) -> Result {
-        match self {
-            Encoded::Word(word) => f.debug_tuple("Word").field(&Hex(*word)).finish(),
-            Encoded::TooWide => f.write_str("TooWide"),
-        }
-    }
-}
-
-impl Debug for Placed {
-    fn fmt(&self, f: &mut Formatter) -> Result {
-        match self {
-            Placed::Word(word) => f.debug_tuple("Word").field(&Hex(*word)).finish(),
-            Placed::NoPlace => f.write_str("NoPlace"),
-        }
     }
 }

@@ -29,7 +29,7 @@ fn asked(list: Words, position: u32, high: impl Iterator<Item = u32> + Clone, lo
         for figure in 0..=low {
             let word = position << 28 | figures | figure;
             let stated = model::answer(&list, word);
-            let TakenRequest::Quick(asked) = take_request(words, word) else {
+            let Ok(TakenRequest::Quick(asked)) = take_request(words, word) else {
                 panic!("{word:08X} is not for the summary");
             };
             let quick = answer_summary(summary, asked).model();
@@ -181,7 +181,10 @@ fn rows_past_the_count() {
     let numbers = [0, 1, 2, 7, 8, 255].map(|p| answer_summary(summary, asked(p)).number);
     assert_eq!(numbers, [20, 23, 20, 20, 20, 20]);
     // A count above 7 comes before the position.
-    let summary = Summary { count: 8, ..summary };
+    let summary = Summary {
+        count: 8,
+        ..summary
+    };
     let numbers = [0, 1, 8, 9].map(|p| answer_summary(summary, asked(p)).number);
     assert_eq!(numbers, [10; 4]);
 }

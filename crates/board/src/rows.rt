@@ -13,11 +13,11 @@ pub(crate) fn stand(rows: &[Row], capacity: HalfWatts, fresh: bool) -> Standing
     ensures { result ≡ standing_of fresh capacity.0 rows.now }
 {
     let mut standing = ports::begin(rows.len(), capacity);
-    let mut judged = 0;
-    while ports::goes_on(standing, judged) {
-        let row = rows[judged];
-        judged += 1;
-        standing = ports::take_row(standing, row, judged as u8, fresh);
+    for (i, row) in rows.iter().enumerate() {
+        if !ports::goes_on(standing, i) {
+            break;
+        }
+        standing = ports::take_row(standing, *row, i as u8 + 1, fresh);
     }
     standing
 }
@@ -27,10 +27,11 @@ pub(crate) fn row_of(rows: &[Row], standing: Standing, port: u8) -> Row
     ensures { result ≡ row_of rows.now (place_of standing port) }
 {
     let at = ports::place_of(standing, port);
-    if at < rows.len() { rows[at] } else { NO_ROW }
+    rows.get(at).copied().unwrap_or(NO_ROW)
 }
 
-// A place past the end is no row: nothing is written there. A refusal has such a place.
+// A place past the end is no row: nothing is written there. A refusal has such a place. With `get_mut` the proof did not close: once its
+// borrow is over, nothing is known of the rows.
 pub(crate) fn put_row(rows: &mut [Row], at: usize, row: Row)
     ensures { rows.new ≡ set rows.old at row }
 {
@@ -44,11 +45,7 @@ pub(crate) fn empty_rows(rows: &mut [Row], n: usize)
     requires { n ≤ length rows.old }
     ensures { rows.new ≡ emptied_to n rows.old }
 {
-    let mut i = 0;
-    while i < n {
-        let row = rows[i];
-        let empty = emptied(row);
-        rows[i] = empty;
-        i += 1;
+    for i in 0..n {
+        rows[i] = emptied(rows[i]);
     }
 }

@@ -1,11 +1,32 @@
 // The sharing calls over the lent rows (docs/STATEMENT.md, "Ports that share"). What a call does is decided by value, in `ports`.
+ghost use Rattle.std.specs.Prelude.{◌≡◌, false, set};
+ghost use Rattle.ports.specs.Rows.{row_of};
+ghost use Rattle.ports.specs.Standing.{standing_of, place_of};
 ghost use Rattle.board.specs.Promises.{SharesSetUp, SharesAttach, SharesAdvertise, SharesRequest, SharesDetach, SharesRemaining};
 
 use crate::rows::{empty_rows, put_row, row_of, stand};
 use lists::Listing;
-use ports::{RemainingPower, Row};
+use ports::{Change, RemainingPower, Row, Standing};
 use steps::{HalfWatts, Ma10};
 use verdicts::Verdict;
+
+// A call on one port: judges the rows, decides by how they stand and by the port's own row, and writes the row that comes of it.
+fn share<F: FnOnce(Standing, Row) -> Change>(
+    rows: &mut [Row],
+    capacity: HalfWatts,
+    port: u8,
+    decide: F,
+) -> Change
+    requires { F.IsAlwaysCallable decide }
+    ensures decided { F.post decide (standing_of false capacity.0 rows.old) (row_of rows.old (place_of (standing_of false capacity.0 rows.old) port)) result }
+    ensures written { rows.new ≡ set rows.old result.at result.row }
+{
+    let standing = stand(&*rows, capacity, ports::SOUND);
+    let row = row_of(&*rows, standing, port);
+    let change = decide(standing, row);
+    put_row(rows, change.at, change.row);
+    change
+}
 
 // Empties every port: cable 0, present power 0, 15 half watts held. Of the rows as lent only `max` and `pps` matter. The capacity is in half
 // watts, from 15 for each row to 1600, and the same in each call. Refusals: 30, 32, then row by row 31, 4 (the row).
@@ -23,11 +44,10 @@ pub fn arin_set_up(rows: &mut [Row], capacity: u16) -> Verdict
 pub fn arin_attach(rows: &mut [Row], capacity: u16, port: u8, cable: u16) -> Listing
     ensures { SharesAttach rows.old capacity port cable result rows.new }
 {
-    let rating = Ma10(cable);
-    let standing = stand(&*rows, HalfWatts(capacity), ports::SOUND);
-    let row = row_of(&*rows, standing, port);
-    let change = ports::attach(standing, row, HalfWatts(capacity), port, rating);
-    put_row(rows, change.at, change.row);
+    let capacity = HalfWatts(capacity);
+    let change = share(rows, capacity, port, |standing, row| {
+        ports::attach(standing, row, capacity, port, Ma10(cable))
+    });
     ports::offer(change)
 }
 
@@ -36,10 +56,10 @@ pub fn arin_attach(rows: &mut [Row], capacity: u16, port: u8, cable: u16) -> Lis
 pub fn arin_advertise(rows: &mut [Row], capacity: u16, port: u8) -> Listing
     ensures { SharesAdvertise rows.old capacity port result rows.new }
 {
-    let standing = stand(&*rows, HalfWatts(capacity), ports::SOUND);
-    let row = row_of(&*rows, standing, port);
-    let change = ports::advertise(standing, row, HalfWatts(capacity), port);
-    put_row(rows, change.at, change.row);
+    let capacity = HalfWatts(capacity);
+    let change = share(rows, capacity, port, |standing, row| {
+        ports::advertise(standing, row, capacity, port)
+    });
     ports::offer(change)
 }
 
@@ -50,10 +70,10 @@ pub fn arin_advertise(rows: &mut [Row], capacity: u16, port: u8) -> Listing
 pub fn arin_request(rows: &mut [Row], capacity: u16, port: u8, word: u32) -> Verdict
     ensures { SharesRequest rows.old capacity port word result rows.new }
 {
-    let standing = stand(&*rows, HalfWatts(capacity), ports::SOUND);
-    let row = row_of(&*rows, standing, port);
-    let change = ports::request(standing, row, HalfWatts(capacity), port, word);
-    put_row(rows, change.at, change.row);
+    let capacity = HalfWatts(capacity);
+    let change = share(rows, capacity, port, |standing, row| {
+        ports::request(standing, row, capacity, port, word)
+    });
     change.answer
 }
 
@@ -61,10 +81,13 @@ pub fn arin_request(rows: &mut [Row], capacity: u16, port: u8, word: u32) -> Ver
 pub fn arin_detach(rows: &mut [Row], capacity: u16, port: u8) -> Verdict
     ensures { SharesDetach rows.old capacity port result rows.new }
 {
-    let standing = stand(&*rows, HalfWatts(capacity), ports::SOUND);
-    let row = row_of(&*rows, standing, port);
-    let change = ports::detach(standing, row, HalfWatts(capacity), port);
-    put_row(rows, change.at, change.row);
+    let capacity = HalfWatts(capacity);
+    let change = share(
+        rows,
+        capacity,
+        port,
+        |standing, row| ports::detach(standing, row, capacity, port),
+    );
     change.answer
 }
 

@@ -1,2 +1,4 @@
-pub mod Leaving
-pub mod Moving
+pub mod Adding
+pub mod Printing
+pub mod Reading
+pub mod Turns

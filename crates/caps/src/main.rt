@@ -2,27 +2,24 @@
 
 #![tactic(auto)]
 
-mod blocks;
+mod failure;
+mod input;
+mod listing;
+mod output;
 mod records;
 
-// The next free place of the output block, or that a write failed.
-#[derive(Clone, Copy)]
-pub enum Written {
-    At(usize),
-    Failed,
-}
+use input::Input;
+use output::Output;
+use std::io;
 
-// After a read: how many bytes of an unfinished record are kept at the start of the input block, and the next free
-// place of the output block; or that there is nothing more to do.
-#[derive(Clone, Copy)]
-pub enum Step {
-    More { kept: usize, next: usize },
-    Ended,
-}
+// Of each block, the input's and the output's. std's BufReader and BufWriter take an allocator, and this program has no heap.
+pub const BLOCK: usize = 65536;
 
+// The program ends with status 0 whatever happened, so it says here what it could not do.
 fn main(rt: HostRuntime) {
-    let mut source = rt.reader();
-    let mut input = [0u8; 65536];
-    let mut output = [0u8; 65536];
-    blocks::list_all(&rt, &mut source, &mut input, &mut output);
+    let mut input = Input::new(rt.reader());
+    let mut output = Output::new(io::writer(&rt));
+    if let Err(failure) = listing::list_all(&mut input, &mut output) {
+        let _ = rt.eprint(failure);
+    }
 }

@@ -3,12 +3,13 @@
 
 #![tactic(auto)]
 
+mod currents;
 mod expecting;
 mod lists_by_hand;
-mod making;
 mod notice_examples;
-mod printing;
+mod ports;
 mod requests_on_l;
+mod running;
 mod table_10_4;
 
 use std::io;

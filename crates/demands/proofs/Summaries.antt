@@ -1,6 +1,6 @@
 -- Proves the claims of specs/Summaries.antt, from the laws of `summaries` on the definitions that the contracts cite.
 -- Assumes nothing.
-use Rattle.std.specs.Prelude.{Some}
+use Rattle.std.specs.Prelude.{Some, Result, Ok, Err}
 use mathlib.Core.Path.{◌≡◌, refl, sym, ap, ◌∙◌, subst}
 use mathlib.Core.Bool.{Bool, true, false}
 use mathlib.Core.Logic.{◌⊎◌, inl, inr}
@@ -29,7 +29,7 @@ use Rattle.summaries.specs.declared.Summarized.{Summarized}
 use Rattle.summaries.specs.declared.QuickRequest.TheVariants as quick
 use Rattle.summaries.specs.declared.QuickAsked.{QuickAsked}
 use Rattle.summaries.specs.declared.TakenRequest.{TakenRequest}
-use Rattle.summaries.specs.declared.TakenRequest.TheVariants.{Refused, Battery, Quick}
+use Rattle.summaries.specs.declared.TakenRequest.TheVariants.{Battery, Quick}
 use Rattle.summaries.specs.Summaries.{below_in, above_in, no_limits, limits_in, limits_at, summary_of, summarized_of}
 use Rattle.summaries.specs.Taking.{quick_of, taken_of}
 use Rattle.summaries.specs.Answering.{range_by, judged_by, row_of, answered_by}
@@ -80,7 +80,9 @@ built_row_by_row p b e s r is = summary_row_by_row b.list (built_shaped p b e s)
 
 -- ---- what decoding gives
 
-by_kind_lem : (o : Object) (w : ℕ) → (IsBattery o × (quick_of (taken_apart o w) ≡ Battery (position_of w) (mismatch_of w))) ⊎ DecodedAs o w (quick_of (taken_apart o w))
+by_kind_lem : (o : Object) (w : ℕ)
+    → (IsBattery o × (◌≡◌ {A = Result TakenRequest Verdict} (Ok (quick_of (taken_apart o w))) (Ok (Battery (position_of w) (mismatch_of w)))))
+    ⊎ DecodedAs o w (Ok (quick_of (taken_apart o w)))
 unfolding quick_of taken_apart
 by_kind_lem (object.Fixed f p v a) w = inr (record { decoded = record { position = _; mismatch = _; request = quick.Fixed _ _ }; is = refl; taken_apart = refl })
 by_kind_lem (object.Battery x m p) w = inl (record { max = x; min = m; power = p; is = refl }, refl)
@@ -90,10 +92,10 @@ by_kind_lem (object.Avs p l h) w = inr (record { decoded = record { position = _
 
 pub decoded_for_the_kind : DecodedForTheKind
 decoded_for_the_kind l w counted inside o d t is =
-    subst (λ (x : TakenRequest). (IsBattery o × (x ≡ Battery (position_of w) (mismatch_of w))) ⊎ DecodedAs o w x)
+    subst (λ (x : Result TakenRequest Verdict). (IsBattery o × (x ≡ Ok (Battery (position_of w) (mismatch_of w)))) ⊎ DecodedAs o w x)
     (sym (is ∙ of_object_lem l w counted inside o (sym (decoded_is _ (Some o) d)))) (by_kind_lem o w)
 
-flat_by_kind : (o : Object) (w : ℕ) → flat_taken_by (quick_of (taken_apart o w)) ≡ taken_as (flat_for o w)
+flat_by_kind : (o : Object) (w : ℕ) → flat_taken_by (Ok (quick_of (taken_apart o w))) ≡ taken_as (flat_for o w)
 unfolding quick_of taken_apart flat_request_of
 flat_by_kind (object.Fixed f p v a) w = refl
 flat_by_kind (object.Battery x m p) w = refl
@@ -135,18 +137,18 @@ built_agrees p b e s w m is a t r v f g = summary_agrees b.list w (built_shaped 
 -- in C: what decoding gave is a decoded request, since it is no refusal and not for a battery
 pub arin_summary_agrees : ArinSummaryAgrees
 arin_summary_agrees l w e m is t t-is good other r v f g = go (taken_of l w) refl where
-  same : (x : TakenRequest) → taken_of l w ≡ x → t ≡ flat_taken_by x
+  same : (x : Result TakenRequest Verdict) → taken_of l w ≡ x → t ≡ flat_taken_by x
   same x q = t-is ∙ flat_taken l w ∙ ap flat_taken_by q
 
-  go : (x : TakenRequest) → taken_of l w ≡ x → r ≡ v
-  go (Refused u) q =
+  go : (x : Result TakenRequest Verdict) → taken_of l w ≡ x → r ≡ v
+  go (Err u) q =
       let z : ◌≡◌ {A = ℕ} 20 0 = ap (λ (x : Verdict). x.number)
-      (sym (refused_20 l (shaped l e) w u q) ∙ sym (ap (λ (y : FlatTaken). y.verdict) (same (Refused u) q)) ∙ good) in
+      (sym (refused_20 l (shaped l e) w u q) ∙ sym (ap (λ (y : FlatTaken). y.verdict) (same (Err u) q)) ∙ good) in
       absurd (omega arith)
-  go (Battery p b) q = absurd (other (ap (λ (y : FlatTaken). y.request.kind) (same (Battery p b) q)))
-  go (Quick a) q =
+  go (Ok (Battery p b)) q = absurd (other (ap (λ (y : FlatTaken). y.request.kind) (same (Ok (Battery p b)) q)))
+  go (Ok (Quick a)) q =
       f
-      ∙ ap (flat_answered_of m.summary) (ap (λ (y : FlatTaken). y.request) (same (Quick a) q))
+      ∙ ap (flat_answered_of m.summary) (ap (λ (y : FlatTaken). y.request) (same (Ok (Quick a)) q))
       ∙ by_decoded_request m.summary (flat_request_of a) a (request_again a)
       ∙ from_own l e m is a
       ∙ alike l (shaped l e) w a q

@@ -1,5 +1,6 @@
 -- Proves the claims of specs/SummaryRefusals.antt.
 -- Assumes nothing.
+use Rattle.std.specs.Prelude.{Result}
 use mathlib.Core.Path.{◌≡◌, refl, sym, ap, ◌∙◌, subst}
 use mathlib.Core.Bool.{true}
 use Prim.Native.Nat.{ℕ}
@@ -44,7 +45,7 @@ pub decoding_numbered : (l : Words) (w : ℕ) → numbered (decoding_refusals l 
 decoding_numbered l w = refl
 
 -- the verdict of decoding, and what is given where it is refused
-decoded : (l : Words) (w : ℕ) (r : TakenRequest) → r ≡ taken_of l w
+decoded : (l : Words) (w : ℕ) (r : Result TakenRequest Verdict) → r ≡ taken_of l w
     → Answers (taken_verdict r) (decoding_refusals l w) × ((taken_verdict r ≡ success → ⊥) → r ≡ taken_refused (taken_verdict r).number (taken_verdict r).place)
 unfolding taken_of
 decoded l w r e =

@@ -4,7 +4,7 @@
 -- `limits_of o` (summaries, specs/Summaries) is the table of limits, object by object; `row_of s p` the row of position p, which counts from 1;
 -- `named_by l w` what the word that a request names stands for; `asked_as a` (summaries, specs/Taking) a decoded request as `take_apart` gives it.
 -- Assumes nothing.
-use Rattle.std.specs.Prelude.{◌≡◌, true, false, ◌↔◌, ◌⊎◌, ℕ, ◌-◌, ◌≤◌, ◌<◌, max, [], length, get_or, Some}
+use Rattle.std.specs.Prelude.{◌≡◌, true, false, ◌↔◌, ◌⊎◌, ℕ, ◌-◌, ◌≤◌, ◌<◌, max, [], length, get_or, Some, Result, Ok, Err}
 use Rattle.verdicts.specs.declared.Verdict.{Verdict}
 use Rattle.verdicts.specs.Refusals.{verdict, success}
 use Rattle.steps.specs.Units.{ma50}
@@ -25,7 +25,7 @@ use Rattle.summaries.specs.declared.Summarized.{Summarized}
 use Rattle.summaries.specs.declared.QuickRequest.TheVariants as quick
 use Rattle.summaries.specs.declared.QuickAsked.{QuickAsked}
 use Rattle.summaries.specs.declared.TakenRequest.{TakenRequest}
-use Rattle.summaries.specs.declared.TakenRequest.TheVariants.{Refused, Battery, Quick}
+use Rattle.summaries.specs.declared.TakenRequest.TheVariants.{Battery, Quick}
 use Rattle.summaries.specs.Summaries.{lowest_in, highest_in, below_in, above_in, limits_of, no_limits}
 use Rattle.summaries.specs.Taking.{asked_as}
 use Rattle.summaries.specs.Answering.{row_of}
@@ -66,9 +66,9 @@ pub record IsBattery (o : Object) : Type 0 where
   pub is : o ≡ object.Battery max min power
 
 -- a decoded request that is the request as `take_apart` gives it for the object
-pub record DecodedAs (o : Object) (w : ℕ) (t : TakenRequest) : Type 0 where
+pub record DecodedAs (o : Object) (w : ℕ) (t : Result TakenRequest Verdict) : Type 0 where
   pub decoded : QuickAsked
-  pub is : t ≡ Quick decoded
+  pub is : t ≡ Ok (Quick decoded)
   pub taken_apart : TakeApartAnswers o w (asked_as decoded)
 
 -- of every list of 1 to 7 words, whatever its shape: for a battery object the answer is that the request is for the list, and for every other
@@ -77,8 +77,8 @@ abbrev pub DecodedForTheKind : Type 0
 DecodedForTheKind =
     (l : Words) (w : ℕ) → bad_count l.count ≡ false → bad_position l.count (position_of w) ≡ false
     → (o : Object) → DecodeAnswers (get_or l.words (position_of w - 1) 0) (Some o)
-    → (t : TakenRequest) → TakeRequestAnswers l w t
-    → (IsBattery o × (t ≡ Battery (position_of w) (mismatch_of w))) ⊎ DecodedAs o w t
+    → (t : Result TakenRequest Verdict) → TakeRequestAnswers l w t
+    → (IsBattery o × (t ≡ Ok (Battery (position_of w) (mismatch_of w)))) ⊎ DecodedAs o w t
 
 -- the struct of C for an object, field by field: the figures of the request as `take_apart` has them, and for a battery none
 abbrev pub flat_for : Object → ℕ → FlatRequest
@@ -101,7 +101,7 @@ ArinDecodedForTheKind =
 abbrev pub SummaryAgrees : Type 0
 SummaryAgrees =
     (l : Words) (w : ℕ) → ShapeAnswers l success → (m : Summarized) → SummarizeAnswers l m
-    → (a : QuickAsked) → TakeRequestAnswers l w (Quick a)
+    → (a : QuickAsked) → TakeRequestAnswers l w (Ok (Quick a))
     → (r v : Verdict) → AnswerSummaryAnswers m.summary a r → AnswerAnswers l w v → r ≡ v
 
 -- the same of a request that is taken apart in whatever way, for the object at its position
@@ -119,7 +119,7 @@ abbrev pub OutsideIs20 : Type 0
 OutsideIs20 =
     (l : Words) (w : ℕ) → ShapeAnswers l success → bad_position l.count (position_of w) ≡ true
     → ((v : Verdict) → AnswerAnswers l w v → v ≡ verdict 20 0)
-    × (((t : TakenRequest) → TakeRequestAnswers l w t → t ≡ Refused (verdict 20 0))
+    × (((t : Result TakenRequest Verdict) → TakeRequestAnswers l w t → t ≡ Err (verdict 20 0))
     × ((m : Summarized) → SummarizeAnswers l m → (a : QuickAsked) → bad_position l.count a.position ≡ true
     → (r : Verdict) → AnswerSummaryAnswers m.summary a r → r ≡ verdict 20 0))
 
@@ -127,7 +127,7 @@ OutsideIs20 =
 abbrev pub BuiltAgrees : Type 0
 BuiltAgrees =
     (p : Profile) (b : Listing) → BuildAnswers p b → b.verdict ≡ success → (w : ℕ) (m : Summarized) → SummarizeAnswers b.list m
-    → (a : QuickAsked) → TakeRequestAnswers b.list w (Quick a)
+    → (a : QuickAsked) → TakeRequestAnswers b.list w (Ok (Quick a))
     → (r v : Verdict) → AnswerSummaryAnswers m.summary a r → AnswerAnswers b.list w v → r ≡ v
 
 -- the three calls of C: what decoding gives without a refusal, for an object that is no battery, gets the answer of `arin_answer`

@@ -1,7 +1,7 @@
 -- The contract of each call over summaries and decoded requests, and of each of them under its C name. As in CallContracts each name is the
 -- clause of the source itself. Nothing is claimed here.
 -- Assumes nothing.
-use Rattle.std.specs.Prelude.{List, ℕ}
+use Rattle.std.specs.Prelude.{List, ℕ, Result}
 use Rattle.verdicts.specs.declared.Verdict.{Verdict}
 use Rattle.lists.specs.declared.Words.{Words}
 use Rattle.summaries.specs.declared.Summary.{Summary}
@@ -28,7 +28,7 @@ RowsOfAnswers s r = rows_of.Post tt (s, tt) r (s, tt)
 abbrev pub SummarizeAnswers : Words → Summarized → Type 0
 SummarizeAnswers l r = summarize.Post tt (l, tt) r (l, tt)
 
-abbrev pub TakeRequestAnswers : Words → ℕ → TakenRequest → Type 0
+abbrev pub TakeRequestAnswers : Words → ℕ → Result TakenRequest Verdict → Type 0
 TakeRequestAnswers l w r = take_request.Post tt (l, (w, tt)) r (l, (w, tt))
 
 abbrev pub AnswerSummaryAnswers : Summary → QuickAsked → Verdict → Type 0

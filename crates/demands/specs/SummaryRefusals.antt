@@ -2,7 +2,7 @@
 -- and none before it does. On a refusal all else in the answer is zero. Each claim is proved by the theorem of its name in small letters in
 -- proofs/SummaryRefusals.antt; the order is in docs/STATEMENT.md, "Refusal numbers".
 -- Assumes nothing.
-use Rattle.std.specs.Prelude.{◌≡◌, ℕ}
+use Rattle.std.specs.Prelude.{◌≡◌, ℕ, Result}
 use Rattle.verdicts.specs.declared.Verdict.{Verdict}
 use Rattle.verdicts.specs.Refusals.{success}
 use Rattle.lists.specs.declared.Words.{Words}
@@ -30,7 +30,8 @@ SummarizeRefusals =
 
 -- a refusal is all that a refused decoding gives, by its type
 abbrev pub TakeRequestRefusals : Type 0
-TakeRequestRefusals = (l : Words) (w : ℕ) (r : TakenRequest) → TakeRequestAnswers l w r → Answers (taken_verdict r) (decoding_refusals l w)
+TakeRequestRefusals =
+    (l : Words) (w : ℕ) (r : Result TakenRequest Verdict) → TakeRequestAnswers l w r → Answers (taken_verdict r) (decoding_refusals l w)
 
 abbrev pub AnswerSummaryRefusals : Type 0
 AnswerSummaryRefusals = (s : Summary) (a : QuickAsked) (r : Verdict) → AnswerSummaryAnswers s a r → Answers r (summary_refusals s a)

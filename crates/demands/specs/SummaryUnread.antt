@@ -3,7 +3,7 @@
 -- of the position; of the struct of C the fields that its kind does not have. Each claim is proved by the theorem of its name in small letters in proofs/SummaryUnread.antt.
 -- `AgreeWords` (lists, specs/Unread): the same count, and the same up to it.
 -- Assumes nothing.
-use Rattle.std.specs.Prelude.{◌≡◌, false, ℕ, ◌-◌, get_or}
+use Rattle.std.specs.Prelude.{◌≡◌, false, ℕ, ◌-◌, get_or, Result}
 use Rattle.verdicts.specs.declared.Verdict.{Verdict}
 use Rattle.lists.specs.declared.Words.{Words}
 use Rattle.lists.specs.Unread.{AgreeWords}
@@ -34,7 +34,7 @@ pub record SameNamed (l m : Words) (w : ℕ) : Type 0 where
 
 abbrev pub TakeRequestLooksAtOne : Type 0
 TakeRequestLooksAtOne =
-    (l m : Words) (w : ℕ) → SameNamed l m w → (r s : TakenRequest) → TakeRequestAnswers l w r → TakeRequestAnswers m w s → r ≡ s
+    (l m : Words) (w : ℕ) → SameNamed l m w → (r s : Result TakenRequest Verdict) → TakeRequestAnswers l w r → TakeRequestAnswers m w s → r ≡ s
 
 abbrev pub FlatTakeRequestLooksAtOne : Type 0
 FlatTakeRequestLooksAtOne =

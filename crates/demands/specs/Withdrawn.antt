@@ -2,7 +2,7 @@
 -- its caller's gives 21 only if that was 21. `Never21` has a line for each public call that gives the number of a refusal, and is proved by
 -- `never_21` in proofs/Withdrawn.antt.
 -- Assumes nothing.
-use Rattle.std.specs.Prelude.{◌≡◌, Bool, List, ℕ, Option}
+use Rattle.std.specs.Prelude.{◌≡◌, Bool, List, ℕ, Option, Result}
 use Rattle.verdicts.specs.declared.Verdict.{Verdict}
 use Rattle.steps.specs.declared.Mv50.{Mv50}
 use Rattle.steps.specs.declared.Mv100.{Mv100}
@@ -89,7 +89,7 @@ pub record Never21 : Type 0 where
   pub answer : (l : Words) (w : ℕ) (r : Verdict) → AnswerAnswers l w r → Not21 r.number
   -- summaries
   pub summarize : (l : Words) (r : Summarized) → SummarizeAnswers l r → Not21 r.verdict.number
-  pub take_request : (l : Words) (w : ℕ) (r : TakenRequest) → TakeRequestAnswers l w r → Not21 (taken_verdict r).number
+  pub take_request : (l : Words) (w : ℕ) (r : Result TakenRequest Verdict) → TakeRequestAnswers l w r → Not21 (taken_verdict r).number
   pub answer_summary : (s : Summary) (a : QuickAsked) (r : Verdict) → AnswerSummaryAnswers s a r → Not21 r.number
   -- sinks
   pub sink_decode : (w : ℕ) (r : Option SinkObject) → SinkDecodeAnswers w r → Not21 (sink_decoded_says r).0

@@ -1,6 +1,6 @@
 -- Decoded requests as C has them: which kind numbers have one, and the answer by way of it.
 -- Assumes nothing.
-use Rattle.std.specs.Prelude.{Option, Some, None}
+use Rattle.std.specs.Prelude.{Option, Some, None, Result, Ok, Err}
 use mathlib.Core.Path.{◌≡◌, refl, sym, ap, ◌∙◌, subst}
 use mathlib.Core.Bool.{Bool, true, false, not}
 use Prim.Native.Nat.{ℕ, zero, suc}
@@ -16,7 +16,7 @@ use Rattle.summaries.specs.declared.QuickRequest.{QuickRequest}
 use Rattle.summaries.specs.declared.QuickRequest.TheVariants.{Fixed, Variable, Pps, Avs}
 use Rattle.summaries.specs.declared.QuickAsked.{QuickAsked}
 use Rattle.summaries.specs.declared.TakenRequest.{TakenRequest}
-use Rattle.summaries.specs.declared.TakenRequest.TheVariants.{Refused, Battery, Quick}
+use Rattle.summaries.specs.declared.TakenRequest.TheVariants.{Battery, Quick}
 use Rattle.summaries.specs.Taking.{taken_verdict, taken_of}
 use Rattle.requests.specs.Answering.{bad_position}
 use Rattle.summaries.specs.Answering.{row_of, summary_refusals, answered_by}
@@ -107,10 +107,10 @@ module _ (l : Words) (w : ℕ) where
   unfolding flat_taken_of
   flat_taken = refl
 
-  verdict_by : (t : TakenRequest) → (flat_taken_by t).verdict ≡ taken_verdict t
-  verdict_by (Refused v) = refl
-  verdict_by (Battery p m) = refl
-  verdict_by (Quick a) = refl
+  verdict_by : (t : Result TakenRequest Verdict) → (flat_taken_by t).verdict ≡ taken_verdict t
+  verdict_by (Err v) = refl
+  verdict_by (Ok (Battery p m)) = refl
+  verdict_by (Ok (Quick a)) = refl
 
   pub flat_taken_verdict : (flat_taken_of l w).verdict ≡ taken_verdict (taken_of l w)
   flat_taken_verdict = ap (λ (t : FlatTaken). t.verdict) flat_taken ∙ verdict_by (taken_of l w)
@@ -181,11 +181,11 @@ own_request_lem p b (Variable o x) = refl
 own_request_lem p b (Pps v a) = refl
 own_request_lem p b (Avs v a) = refl
 
-own_taken : (t : TakenRequest) → own_request (flat_taken_by t).request ≡ (flat_taken_by t).request
+own_taken : (t : Result TakenRequest Verdict) → own_request (flat_taken_by t).request ≡ (flat_taken_by t).request
 unfolding flat_request_of
-own_taken (Refused v) = refl
-own_taken (Battery p m) = refl
-own_taken (Quick a) = own_request_lem a.position (bit_of a.mismatch) a.request
+own_taken (Err v) = refl
+own_taken (Ok (Battery p m)) = refl
+own_taken (Ok (Quick a)) = own_request_lem a.position (bit_of a.mismatch) a.request
 
 pub flat_taken_own : (l : Words) (w : ℕ) → own_request (flat_taken_of l w).request ≡ (flat_taken_of l w).request
 flat_taken_own l w = subst (λ (x : FlatTaken). own_request x.request ≡ x.request) (sym (flat_taken l w)) (own_taken (taken_of l w))

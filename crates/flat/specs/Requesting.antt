@@ -2,7 +2,7 @@
 -- number, that of the object. Fields that the kind does not have are not looked at, and are zero in what is given back."), and the answer to one
 -- ("Answering from a summary").
 -- Assumes nothing.
-use Rattle.std.specs.Prelude.{Bool, not, ◌||◌, cond, List, ◌∷◌, ℕ, zero, suc, eqb, Option, Some, None}
+use Rattle.std.specs.Prelude.{Bool, not, ◌||◌, cond, List, ◌∷◌, ℕ, zero, suc, eqb, Option, Some, None, Result, Ok, Err}
 use Rattle.verdicts.specs.declared.Verdict.{Verdict}
 use Rattle.verdicts.specs.Refusals.{Refusal, refusal, success, verdict_of}
 use Rattle.steps.specs.declared.Mv20.{Mv20}
@@ -15,7 +15,7 @@ use Rattle.summaries.specs.declared.QuickRequest.{QuickRequest}
 use Rattle.summaries.specs.declared.QuickRequest.TheVariants.{Fixed, Variable, Pps, Avs}
 use Rattle.summaries.specs.declared.QuickAsked.{QuickAsked}
 use Rattle.summaries.specs.declared.TakenRequest.{TakenRequest}
-use Rattle.summaries.specs.declared.TakenRequest.TheVariants.{Refused, Battery, Quick}
+use Rattle.summaries.specs.declared.TakenRequest.TheVariants.{Battery, Quick}
 use Rattle.summaries.specs.Taking.{taken_of}
 use Rattle.summaries.specs.Answering.{summary_refusals}
 use Rattle.flat.specs.declared.FlatRequest.{FlatRequest}
@@ -47,6 +47,9 @@ abbrev pub flat_in_25_mV : ℕ → ℕ → ℕ → Mv25 → Ma50 → FlatRequest
 flat_in_25_mV k p b v a =
     record { kind = k; position = p; mismatch = b; operating = no_ma10; maximum = no_ma10; volts20 = no_mv20; volts25 = v; current50 = a }
 
+abbrev pub no_figures : ℕ → ℕ → ℕ → FlatRequest
+no_figures k p b = flat_currents k p b no_ma10 no_ma10
+
 abbrev pub flat_request_by : ℕ → ℕ → QuickRequest → FlatRequest
 flat_request_by p b (Fixed o m) = flat_currents 0 p b o m
 flat_request_by p b (Variable o m) = flat_currents 2 p b o m
@@ -58,19 +61,23 @@ flat_request_of a = flat_request_by a.position (bit_of a.mismatch) a.request
 
 -- "For a battery object nothing is refused: the kind, the position and bit 26 are given back, and all else is zero."
 abbrev pub flat_battery_of : ℕ → Bool → FlatRequest
-flat_battery_of p mismatch = flat_currents 1 p (bit_of mismatch) no_ma10 no_ma10
+flat_battery_of p mismatch = no_figures 1 p (bit_of mismatch)
 
 -- "On a refusal everything else in the answer is zero"
 abbrev pub no_request : FlatRequest
-no_request = flat_currents 0 0 0 no_ma10 no_ma10
+no_request = no_figures 0 0 0
 
 abbrev pub taken_as : FlatRequest → FlatTaken
 taken_as x = record { verdict = success; request = x }
 
-abbrev pub flat_taken_by : TakenRequest → FlatTaken
-flat_taken_by (Refused v) = record { verdict = v; request = no_request }
-flat_taken_by (Battery p mismatch) = taken_as (flat_battery_of p mismatch)
-flat_taken_by (Quick a) = taken_as (flat_request_of a)
+abbrev pub flat_taken_told : Result FlatRequest Verdict → FlatTaken
+flat_taken_told (Ok x) = taken_as x
+flat_taken_told (Err v) = record { verdict = v; request = no_request }
+
+abbrev pub flat_taken_by : Result TakenRequest Verdict → FlatTaken
+flat_taken_by (Err v) = record { verdict = v; request = no_request }
+flat_taken_by (Ok (Battery p mismatch)) = taken_as (flat_battery_of p mismatch)
+flat_taken_by (Ok (Quick a)) = taken_as (flat_request_of a)
 
 unfoldable pub flat_taken_of : Words → ℕ → FlatTaken
 flat_taken_of l w = flat_taken_by (taken_of l w)

@@ -2,7 +2,8 @@
 -- from 11 on".
 -- Assumes nothing.
 use Rattle.objects.specs.declared.Object.{Object}
-use Rattle.std.specs.Prelude.{List, ℕ, get_or, Option, Some, None}
+use Rattle.std.specs.Prelude.{List, ℕ, get_or, Option, Some, None, Result}
+use Rattle.verdicts.specs.declared.Verdict.{Verdict}
 use Rattle.verdicts.specs.Refusals.{Refusal}
 use Rattle.objects.specs.declared.Side.{Side}
 use Rattle.objects.specs.declared.Side.TheVariants.{Source}
@@ -10,7 +11,7 @@ use Rattle.objects.specs.Encode.{encode_of}
 use Rattle.lists.specs.declared.Words.{Words}
 use Rattle.lists.specs.declared.Listing.{Listing}
 use Rattle.lists.specs.Writing.{words_from, writing_refusals, written_from}
-use Rattle.lists.specs.Making.{made_from}
+use Rattle.lists.specs.Making.{words_made}
 use Rattle.flat.specs.declared.FlatObject.{FlatObject}
 use Rattle.flat.specs.declared.FlatObjects.{FlatObjects}
 use Rattle.flat.specs.Flat.{raised_for}
@@ -43,5 +44,5 @@ abbrev pub flat_write_of : FlatObjects → Listing
 flat_write_of f = flat_write_for Source f
 
 -- the words made, before their shape is looked at
-abbrev pub flat_made_for : Side → FlatObjects → Listing
-flat_made_for side f = made_from (encoded_flat_at side f.places) f.count
+abbrev pub flat_made_for : Side → FlatObjects → Result Words Verdict
+flat_made_for side f = words_made (encoded_flat_at side f.places) f.count

@@ -1,116 +1,109 @@
 // One object, both ways: a kind has its own fields, and the others are zero or not read.
-ghost use Rattle.flat.specs.Flat.{raised_says, raised_for, sink_raised};
 ghost use Rattle.std.specs.Prelude.{◌≡◌};
+ghost use Rattle.flat.specs.Flat.{raised_says, raised_for, sink_raised};
 ghost use Rattle.flat.specs.Promises.{Flattens, Raises};
 
 use crate::{EMPTY_FLAT, FlatObject, KIND_AVS, KIND_BATTERY, KIND_FIXED, KIND_PPS, KIND_VARIABLE};
 use objects::{Object, Side};
 
-// An object as a flat one: the fields of its kind, and all others zero. Nothing is refused.
-pub fn flatten(o: Object) -> FlatObject
-    ensures { Flattens o result }
-{
-    let mut flat = EMPTY_FLAT;
-    match o {
-        Object::Fixed {
-            flags,
-            peak,
-            volts,
-            current,
-        } => {
-            flat.kind = KIND_FIXED;
-            flat.flags = flags;
-            flat.peak = peak;
-            flat.volts = volts;
-            flat.current = current;
-            flat
-        }
-        Object::Battery { max, min, power } => {
-            flat.kind = KIND_BATTERY;
-            flat.max = max;
-            flat.min = min;
-            flat.power = power;
-            flat
-        }
-        Object::Variable { max, min, current } => {
-            flat.kind = KIND_VARIABLE;
-            flat.max = max;
-            flat.min = min;
-            flat.current = current;
-            flat
-        }
-        Object::Pps {
-            limited,
-            max,
-            min,
-            current,
-        } => {
-            flat.kind = KIND_PPS;
-            flat.limited = limited;
-            flat.max100 = max;
-            flat.min100 = min;
-            flat.current50 = current;
-            flat
-        }
-        Object::Avs { peak, low, high } => {
-            flat.kind = KIND_AVS;
-            flat.peak = peak;
-            flat.low = low;
-            flat.high = high;
-            flat
+// An object as a flat one: the fields of its kind, and all others zero.
+impl From<Object> for FlatObject {
+    ghost from_gives = { Flattens };
+
+    #[tactic(auto, unfolding(crate::specs::Flat::flat_of))]
+    fn from(o: Object) -> FlatObject {
+        match o {
+            Object::Fixed {
+                flags,
+                peak,
+                volts,
+                current,
+            } => FlatObject {
+                kind: KIND_FIXED,
+                flags,
+                peak,
+                volts,
+                current,
+                ..EMPTY_FLAT
+            },
+            Object::Battery { max, min, power } => FlatObject {
+                kind: KIND_BATTERY,
+                max,
+                min,
+                power,
+                ..EMPTY_FLAT
+            },
+            Object::Variable { max, min, current } => FlatObject {
+                kind: KIND_VARIABLE,
+                max,
+                min,
+                current,
+                ..EMPTY_FLAT
+            },
+            Object::Pps {
+                limited,
+                max,
+                min,
+                current,
+            } => FlatObject {
+                kind: KIND_PPS,
+                limited,
+                max100: max,
+                min100: min,
+                current50: current,
+                ..EMPTY_FLAT
+            },
+            Object::Avs { peak, low, high } => FlatObject {
+                kind: KIND_AVS,
+                peak,
+                low,
+                high,
+                ..EMPTY_FLAT
+            },
         }
     }
 }
 
+// An object as a flat one: the fields of its kind, and all others zero. Nothing is refused.
+pub fn flatten(o: Object) -> FlatObject
+    ensures { Flattens o result }
+{
+    FlatObject::from(o)
+}
+
 // The object of a flat one; the fields that its kind does not have are not read. `None` (refusal 12) where the kind number is none of
-// the five.
+// the five. This is no `TryFrom`, which would take one of two ways: an object of a sink is raised by another.
 pub fn raise(flat: FlatObject) -> Option<Object>
     ensures { Raises flat result }
 {
-    let kind = flat.kind;
-    match kind {
-        KIND_FIXED => {
-            let volts = flat.volts;
-            let current = flat.current;
-            Some(Object::Fixed {
-                flags: flat.flags,
-                peak: flat.peak,
-                volts,
-                current,
-            })
-        }
-        KIND_BATTERY => {
-            let max = flat.max;
-            let min = flat.min;
-            let power = flat.power;
-            Some(Object::Battery { max, min, power })
-        }
-        KIND_VARIABLE => {
-            let max = flat.max;
-            let min = flat.min;
-            let current = flat.current;
-            Some(Object::Variable { max, min, current })
-        }
-        KIND_PPS => {
-            let max = flat.max100;
-            let min = flat.min100;
-            let current = flat.current50;
-            Some(Object::Pps {
-                limited: flat.limited,
-                max,
-                min,
-                current,
-            })
-        }
-        KIND_AVS => {
-            let low = flat.low;
-            let high = flat.high;
-            Some(Object::Avs {
-                peak: flat.peak,
-                low,
-                high,
-            })
-        }
+    match flat.kind {
+        KIND_FIXED => Some(Object::Fixed {
+            flags: flat.flags,
+            peak: flat.peak,
+            volts: flat.volts,
+            current: flat.current,
+        }),
+        KIND_BATTERY => Some(Object::Battery {
+            max: flat.max,
+            min: flat.min,
+            power: flat.power,
+        }),
+        KIND_VARIABLE => Some(Object::Variable {
+            max: flat.max,
+            min: flat.min,
+            current: flat.current,
+        }),
+        KIND_PPS => Some(Object::Pps {
+            limited: flat.limited,
+            max: flat.max100,
+            min: flat.min100,
+            current: flat.current50,
+        }),
+        KIND_AVS => Some(Object::Avs {
+            peak: flat.peak,
+            low: flat.low,
+            high: flat.high,
+        }),
         _ => None,
     }
 }
@@ -122,10 +115,11 @@ fn raise_sink(flat: FlatObject) -> Option<Object>
     if flat.kind == KIND_AVS {
         return None;
     }
-    let mut own = flat;
-    own.peak = 0;
-    own.limited = 0;
-    raise(own)
+    raise(FlatObject {
+        peak: 0,
+        limited: 0,
+        ..flat
+    })
 }
 
 // The object of a flat one in a list of this side. `None` where the kind number is none that the side has.

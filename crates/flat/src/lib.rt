@@ -16,7 +16,8 @@ use steps::{Ma10, Ma50, Mv20, Mv25, Mv50, Mv100, Mw250};
 use verdicts::Verdict;
 pub use writing::{flat_write, flat_write_for};
 
-// The kind of a fixed object. The five kinds are in the order of `objects::Object`; fixed is 0, so that an empty place is all zero.
+// The kind of a fixed object. The five kinds are in the order of `objects::Object`; fixed is 0, so that an empty place is all zero. They are
+// numbers and no enum, since C's structs have them and may hold any number.
 pub const KIND_FIXED: u8 = 0;
 
 // The kind of a battery object.
@@ -66,7 +67,7 @@ pub struct FlatObject {
     pub high: Ma10,
 }
 
-// Seven objects and how many of them count. What lies past the count is returned as zero and not read on the way in.
+// Seven objects and how many of them count, in the layout that C has. What lies past the count is returned as zero and not read on the way in.
 #[repr(C)]
 #[derive(Clone, Copy)]
 pub struct FlatObjects {
@@ -76,7 +77,7 @@ pub struct FlatObjects {
     pub count: u8,
 }
 
-// What reading gives: on a refusal the list is empty and all zero.
+// What reading gives: on a refusal the list is empty and all zero. C gets this struct, so it is no `Result`.
 #[repr(C)]
 #[derive(Clone, Copy)]
 pub struct FlatReading {
@@ -85,6 +86,7 @@ pub struct FlatReading {
     // The objects.
     pub list: FlatObjects,
 }
+
 // A decoded request of any kind: each field has one step of measure. A field that a kind does not have is zero when it is given out, and not
 // read when it is taken in.
 #[repr(C)]
@@ -108,7 +110,7 @@ pub struct FlatRequest {
     pub current50: Ma50,
 }
 
-// What decoding gives: on a refusal the request is all zero, so that no position is named.
+// What decoding gives: on a refusal the request is all zero, so that no position is named. C gets this struct, so it is no `Result`.
 #[repr(C)]
 #[derive(Clone, Copy)]
 pub struct FlatTaken {

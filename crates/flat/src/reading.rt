@@ -14,11 +14,10 @@ use objects::Side;
 fn flat_word(w: u32) -> FlatObject
     ensures { result ≡ flat_of (object_of (decode_of w)) }
 {
-    let d = objects::decode(w);
-    let Some(object) = d else {
-        return EMPTY_FLAT;
-    };
-    flatten(object)
+    match objects::decode(w) {
+        Some(object) => flatten(object),
+        None => EMPTY_FLAT,
+    }
 }
 
 // The objects of so many words, each in its place; empty places past them. The decoded list is not made: a flat one is all that is wanted.
@@ -27,13 +26,8 @@ fn flatten_words(list: Words, count: u8) -> FlatObjects
     ensures { result ≡ flat_objects (objects_to list.words count) }
 {
     let mut places = [EMPTY_FLAT; 7];
-    let mut i: u8 = 0;
-    while i < count {
-        let at = i as usize;
-        let w = list.words[at];
-        let flat = flat_word(w);
-        places[at] = flat;
-        i += 1;
+    for (i, w) in list.words[..count as usize].iter().enumerate() {
+        places[i] = flat_word(*w);
     }
     FlatObjects { places, count }
 }
@@ -44,11 +38,9 @@ pub fn flat_read_for(side: Side, list: Words) -> FlatReading
     ensures { FlatReadsFor side list result }
 {
     let shaped = lists::readable(side, list);
-    let verdict = shaped.verdict;
-    let flat = flatten_words(list, shaped.count);
     FlatReading {
-        verdict,
-        list: flat,
+        verdict: shaped.verdict,
+        list: flatten_words(list, shaped.count),
     }
 }
 

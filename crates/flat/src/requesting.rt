@@ -1,6 +1,6 @@
 // Decoded requests, both ways: out of a request word, and in to a summary.
-ghost use Rattle.std.specs.Prelude.{◌≡◌, Some};
-ghost use Rattle.flat.specs.Requesting.{bit_of, flat_request_of, flat_battery_of, taken_as, asked_with, raised_request_of};
+ghost use Rattle.std.specs.Prelude.{◌≡◌};
+ghost use Rattle.flat.specs.Requesting.{bit_of, no_figures, flat_request_of, flat_battery_of, flat_taken_told, flat_taken_of, raised_request_of};
 ghost use Rattle.flat.specs.Promises.{FlatTakesRequest, FlatAnswersSummary};
 
 use crate::{
@@ -8,48 +8,50 @@ use crate::{
 };
 use lists::Words;
 use summaries::{QuickAsked, QuickRequest, Summary, TakenRequest};
-use verdicts::Verdict;
+use verdicts::{PASSED, Verdict};
 
-fn bit(mismatch: bool) -> u8
-    ensures { result ≡ bit_of mismatch }
+// The position and bit 26, which a request of each kind has.
+fn addressed(position: u8, mismatch: bool) -> FlatRequest
+    ensures { result ≡ no_figures 0 position (bit_of mismatch) }
 {
-    if mismatch {
-        return 1;
+    FlatRequest {
+        position,
+        mismatch: u8::from(mismatch),
+        ..NO_REQUEST
     }
-    0
 }
 
-fn flatten_request(asked: QuickAsked) -> FlatRequest
-    ensures { result ≡ flat_request_of asked }
-{
-    let mut flat = NO_REQUEST;
-    flat.position = asked.position;
-    flat.mismatch = bit(asked.mismatch);
-    let request = asked.request;
-    match request {
-        QuickRequest::Fixed { operating, maximum } => {
-            flat.kind = KIND_FIXED;
-            flat.operating = operating;
-            flat.maximum = maximum;
-            flat
-        }
-        QuickRequest::Variable { operating, maximum } => {
-            flat.kind = KIND_VARIABLE;
-            flat.operating = operating;
-            flat.maximum = maximum;
-            flat
-        }
-        QuickRequest::Pps { volts, current } => {
-            flat.kind = KIND_PPS;
-            flat.volts20 = volts;
-            flat.current50 = current;
-            flat
-        }
-        QuickRequest::Avs { volts, current } => {
-            flat.kind = KIND_AVS;
-            flat.volts25 = volts;
-            flat.current50 = current;
-            flat
+// A decoded request as a flat one: the fields of its kind, and all others zero.
+impl From<QuickAsked> for FlatRequest {
+    ghost from_gives = { λ a x. x ≡ flat_request_of a };
+
+    fn from(asked: QuickAsked) -> FlatRequest {
+        let flat = addressed(asked.position, asked.mismatch);
+        match asked.request {
+            QuickRequest::Fixed { operating, maximum } => FlatRequest {
+                kind: KIND_FIXED,
+                operating,
+                maximum,
+                ..flat
+            },
+            QuickRequest::Variable { operating, maximum } => FlatRequest {
+                kind: KIND_VARIABLE,
+                operating,
+                maximum,
+                ..flat
+            },
+            QuickRequest::Pps { volts, current } => FlatRequest {
+                kind: KIND_PPS,
+                volts20: volts,
+                current50: current,
+                ..flat
+            },
+            QuickRequest::Avs { volts, current } => FlatRequest {
+                kind: KIND_AVS,
+                volts25: volts,
+                current50: current,
+                ..flat
+            },
         }
     }
 }
@@ -57,22 +59,36 @@ fn flatten_request(asked: QuickAsked) -> FlatRequest
 fn flatten_battery(position: u8, mismatch: bool) -> FlatRequest
     ensures { result ≡ flat_battery_of position mismatch }
 {
-    let mut flat = NO_REQUEST;
-    flat.kind = KIND_BATTERY;
-    flat.position = position;
-    flat.mismatch = bit(mismatch);
-    flat
+    FlatRequest {
+        kind: KIND_BATTERY,
+        ..addressed(position, mismatch)
+    }
 }
 
-fn taken(request: FlatRequest) -> FlatTaken
-    ensures { result ≡ taken_as request }
+// What decoding answers, from what went on by `?`: on a refusal no request.
+impl From<Result<FlatRequest, Verdict>> for FlatTaken {
+    ghost from_gives = { λ r t. t ≡ flat_taken_told r };
+
+    fn from(taken: Result<FlatRequest, Verdict>) -> FlatTaken {
+        match taken {
+            Ok(request) => FlatTaken {
+                verdict: PASSED,
+                request,
+            },
+            Err(verdict) => FlatTaken {
+                verdict,
+                request: NO_REQUEST,
+            },
+        }
+    }
+}
+
+fn taken(list: Words, word: u32) -> Result<FlatRequest, Verdict>
+    ensures { flat_taken_told result ≡ flat_taken_of list word }
 {
-    FlatTaken {
-        verdict: Verdict {
-            number: verdicts::SUCCESS,
-            place: 0,
-        },
-        request,
+    match summaries::take_request(list, word)? {
+        TakenRequest::Battery { position, mismatch } => Ok(flatten_battery(position, mismatch)),
+        TakenRequest::Quick(asked) => Ok(FlatRequest::from(asked)),
     }
 }
 
@@ -81,20 +97,32 @@ fn taken(request: FlatRequest) -> FlatTaken
 pub fn flat_take_request(list: Words, word: u32) -> FlatTaken
     ensures { FlatTakesRequest list word result }
 {
-    let decoded = summaries::take_request(list, word);
-    match decoded {
-        TakenRequest::Refused(verdict) => FlatTaken {
-            verdict,
-            request: NO_REQUEST,
-        },
-        TakenRequest::Battery { position, mismatch } => taken(flatten_battery(position, mismatch)),
-        TakenRequest::Quick(asked) => taken(flatten_request(asked)),
-    }
+    FlatTaken::from(taken(list, word))
 }
 
-fn known(flat: FlatRequest, request: QuickRequest) -> Option<QuickAsked>
-    ensures { result ≡ Some (asked_with flat request) }
+// The decoded request of a flat one, where its kind has one; the fields that its kind does not have are not read.
+fn raise_request(flat: FlatRequest) -> Option<QuickAsked>
+    ensures { result ≡ raised_request_of flat }
 {
+    let request = match flat.kind {
+        KIND_FIXED => QuickRequest::Fixed {
+            operating: flat.operating,
+            maximum: flat.maximum,
+        },
+        KIND_VARIABLE => QuickRequest::Variable {
+            operating: flat.operating,
+            maximum: flat.maximum,
+        },
+        KIND_PPS => QuickRequest::Pps {
+            volts: flat.volts20,
+            current: flat.current50,
+        },
+        KIND_AVS => QuickRequest::Avs {
+            volts: flat.volts25,
+            current: flat.current50,
+        },
+        _ => return None,
+    };
     Some(QuickAsked {
         position: flat.position,
         mismatch: flat.mismatch != 0,
@@ -102,46 +130,13 @@ fn known(flat: FlatRequest, request: QuickRequest) -> Option<QuickAsked>
     })
 }
 
-fn raise_request(flat: FlatRequest) -> Option<QuickAsked>
-    ensures { result ≡ raised_request_of flat }
-{
-    let kind = flat.kind;
-    match kind {
-        KIND_FIXED => {
-            let operating = flat.operating;
-            let maximum = flat.maximum;
-            known(flat, QuickRequest::Fixed { operating, maximum })
-        }
-        KIND_VARIABLE => {
-            let operating = flat.operating;
-            let maximum = flat.maximum;
-            known(flat, QuickRequest::Variable { operating, maximum })
-        }
-        KIND_PPS => {
-            let volts = flat.volts20;
-            let current = flat.current50;
-            known(flat, QuickRequest::Pps { volts, current })
-        }
-        KIND_AVS => {
-            let volts = flat.volts25;
-            let current = flat.current50;
-            known(flat, QuickRequest::Avs { volts, current })
-        }
-        _ => None,
-    }
-}
-
 // Whether a decoded request may be accepted, by a summary, as `summaries::answer_summary` says. Refusals: 12 where the kind has no decoded
 // request; then 10, 20, 23, 22, 24, 25; all with place 0.
 pub fn flat_answer_summary(summary: Summary, request: FlatRequest) -> Verdict
     ensures { FlatAnswersSummary summary request result }
 {
-    let raised = raise_request(request);
-    let Some(asked) = raised else {
-        return Verdict {
-            number: verdicts::KIND_NOT_ALLOWED,
-            place: 0,
-        };
+    let Some(asked) = raise_request(request) else {
+        return Verdict::placeless(verdicts::KIND_NOT_ALLOWED);
     };
     summaries::answer_summary(summary, asked)
 }

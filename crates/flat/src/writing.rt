@@ -7,7 +7,7 @@ ghost use Rattle.flat.specs.Promises.{FlatWrites, FlatWritesFor};
 
 use crate::flattening::raise_for;
 use crate::{FlatObject, FlatObjects};
-use lists::{Listing, Words, refuse};
+use lists::{Listing, Words};
 use objects::Side;
 use verdicts::Verdict;
 
@@ -18,40 +18,28 @@ const NO_KIND: u32 = objects::BITS_UNASSIGNED << 28;
 fn encode_flat(side: Side, flat: FlatObject) -> Option<u32>
     ensures { encoded_says result ≡ encoded_says (encoded_raised (raised_for side flat)) }
 {
-    let raised = raise_for(side, flat);
-    let Some(object) = raised else {
-        return Some(NO_KIND);
-    };
-    objects::encode(object)
+    match raise_for(side, flat) {
+        Some(object) => objects::encode(object),
+        None => Some(NO_KIND),
+    }
 }
 
 // The word of each object, until one has a field too wide.
-fn encode_places(side: Side, list: FlatObjects) -> Listing
+fn encode_places(side: Side, list: FlatObjects) -> Result<Words, Verdict>
     ensures { result ≡ flat_made_for side list }
 {
     let count = list.count;
     if lists::bad_count(count) {
-        return refuse(verdicts::COUNT, 0);
+        return Err(Verdict::placeless(verdicts::COUNT));
     }
     let mut words = [0u32; 7];
-    let mut i: u8 = 0;
-    while i < count {
-        let at = i as usize;
-        let flat = list.places[at];
-        let e = encode_flat(side, flat);
-        let Some(w) = e else {
-            return refuse(verdicts::FIELD_TOO_WIDE, i + 1);
-        };
-        words[at] = w;
-        i += 1;
+    for (i, flat) in list.places[..count as usize].iter().enumerate() {
+        words[i] = encode_flat(side, *flat).ok_or(Verdict::at(
+            verdicts::FIELD_TOO_WIDE,
+            i as u8 + 1,
+        ))?;
     }
-    Listing {
-        verdict: Verdict {
-            number: verdicts::SUCCESS,
-            place: 0,
-        },
-        list: Words { words, count },
-    }
+    Ok(Words { words, count })
 }
 
 // The words of a list of objects of this side. Refusals: 10; 7 (the first such object); then those of `lists::shape_for` for the words made.
@@ -60,7 +48,7 @@ fn encode_places(side: Side, list: FlatObjects) -> Listing
 pub fn flat_write_for(side: Side, list: FlatObjects) -> Listing
     ensures { FlatWritesFor side list result }
 {
-    lists::finished(side, encode_places(side, list))
+    lists::finished(side, Listing::from(encode_places(side, list)))
 }
 
 // The words of a list of objects, as `lists::write` makes them. Refusals: 10; 7 (the first such object); then those of `lists::shape` for

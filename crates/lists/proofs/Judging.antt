@@ -1,14 +1,12 @@
 -- One word judged: the cases of `judged_of`, and what a judgement says of the word's rows.
 -- Assumes nothing.
 use Rattle.std.specs.Prelude.{Result, Ok, Err, Option, Some, None}
-use Rattle.std.specs.Option.{is_some, is_none}
 use mathlib.Core.Path.{◌≡◌, refl, sym, ap, ◌∙◌}
 use mathlib.Core.Bool.{Bool, true, false, not}
 use mathlib.Core.List.{List}
 use Prim.Native.Nat.{ℕ, zero, suc, ◌+◌, ◌-◌, ◌<◌}
 use native.Mathlib.Omega.{arith}
 use lib.Dec.{eqb}
-use borrow.Author.Tests.{ne_eqb}
 use lib.ListN.{get_or}
 use Rattle.verdicts.specs.declared.Verdict.{Verdict}
 use Rattle.verdicts.specs.Refusals.{first_of, err, verdict, NoneApply}
@@ -18,60 +16,45 @@ use Rattle.objects.specs.declared.Object.{Object}
 use Rattle.objects.specs.Decode.{decode_for, decoded_number}
 use Rattle.objects.specs.Reserved.{reserved_set}
 use Rattle.lists.specs.declared.object_rules.Standing.{Standing}
-use Rattle.lists.specs.ObjectRules.{out_of_bounds, over_100_W}
+use Rattle.lists.specs.ObjectRules.{out_of_bounds, over_100_W, may_follow}
 use Rattle.lists.specs.Shape.{out_of_order, word_refusals, word_rows}
 use Rattle.lists.specs.Reading.{object_of}
-use Rattle.lists.specs.Judging.{standing_of, standing_before, judged_of, Follows, Judges}
+use Rattle.lists.specs.Judging.{standing_of, judged_of, Judges}
 
-module _ (side : Side) (place : ℕ) (before : Option Object) (w : ℕ) where
-  pub not_known : decode_for side w ≡ None → Err (verdict 12 place) ≡ judged_of side place before w
+module _ (side : Side) (first : Bool) (place : ℕ) (before : Object) (w : ℕ) where
+  pub not_known : decode_for side w ≡ None → Err (verdict 12 place) ≡ judged_of side first place before w
   unfolding judged_of first_of
   not_known d = rw d
 
   module _ (o : Object) (d : decode_for side w ≡ Some o) where
-    pub reserved : reserved_set side o (is_none before) w ≡ true → Err (verdict 13 place) ≡ judged_of side place before w
+    pub reserved : reserved_set side o first w ≡ true → Err (verdict 13 place) ≡ judged_of side first place before w
     unfolding judged_of first_of
     reserved r = rw d (rw r)
 
-    module _ (r : reserved_set side o (is_none before) w ≡ false) where
-      pub bound : out_of_bounds o ≡ true → Err (verdict 15 place) ≡ judged_of side place before w
+    module _ (r : reserved_set side o first w ≡ false) where
+      pub bound : out_of_bounds o ≡ true → Err (verdict 15 place) ≡ judged_of side first place before w
       unfolding judged_of first_of
       bound b = rw d (rw (r, b))
 
       module _ (b : out_of_bounds o ≡ false) where
-        pub power : over_100_W o ≡ true → Err (verdict 16 place) ≡ judged_of side place before w
+        pub power : over_100_W o ≡ true → Err (verdict 16 place) ≡ judged_of side first place before w
         unfolding judged_of first_of
         power p = rw d (rw (r, b, p))
 
         module _ (p : over_100_W o ≡ false) where
-          pub order : out_of_order (is_none before) before (Some o) ≡ true → Err (verdict 14 place) ≡ judged_of side place before w
+          pub order : out_of_order first (Some before) (Some o) ≡ true → Err (verdict 14 place) ≡ judged_of side first place before w
           unfolding judged_of first_of
           order q = rw d (rw (r, b, p, q))
 
-          pub fine : out_of_order (is_none before) before (Some o) ≡ false → Ok (standing_of o) ≡ judged_of side place before w
+          pub fine : out_of_order first (Some before) (Some o) ≡ false → Ok (standing_of o) ≡ judged_of side first place before w
           unfolding judged_of first_of
           fine q = rw d (rw (r, b, p, q))
 
--- ---- what is known of the object before, by how it stands
+pub first_in_order : (first : Bool) (before o : Object) → first ≡ true → out_of_order first (Some before) (Some o) ≡ false
+first_in_order first before o f = rw f
 
-same_none : (b : Option Object) {s : Option Standing} {first : Bool} → standing_before b ≡ s → is_some s ≡ not first → first ≡ is_none b
-same_none (Some o) {first = true} e q = let z : true ≡ false = ap is_some e ∙ q in cc
-same_none (Some o) {first = false} e q = refl
-same_none None {first = true} e q = refl
-same_none None {first = false} e q = let z : false ≡ true = ap is_some e ∙ q in cc
-
-pub reserved_at : (side : Side) (o : Object) (w : ℕ) (b : Option Object) {s : Option Standing} (first r : Bool) → standing_before b ≡ s
-    → is_some s ≡ not first → r ≡ reserved_set side o first w → reserved_set side o (is_none b) w ≡ r
-reserved_at side o w b first r e f q = sym (q ∙ ap (λ (t : Bool). reserved_set side o t w) (same_none b {first = first} e f))
-
-pub first_in_order : (b : Option Object) (o : Object) → standing_before b ≡ None → out_of_order (is_none b) b (Some o) ≡ false
-first_in_order (Some x) o e = let z : Some (standing_of x) ≡ None = e in cc
-first_in_order None o e = refl
-
-pub order_by : (b : Option Object) (o : Object) {s t : Standing} {r : Bool} → standing_before b ≡ Some s → standing_of o ≡ t → Follows s t r
-    → out_of_order (is_none b) b (Some o) ≡ not r
-order_by (Some x) o {s = s} e q f = let z : standing_of x ≡ s = cc in ap not (sym (f x o z q))
-order_by None o {s = s} e q f = let z : ◌≡◌ {A = Option Standing} None (Some s) = e in cc
+pub later_in_order : (first : Bool) (before o : Object) → first ≡ false → out_of_order first (Some before) (Some o) ≡ not (may_follow before o)
+later_in_order first before o f = rw f
 
 -- ---- what a judgement says
 
@@ -80,11 +63,10 @@ pub has_object : (d : Option Object) → eqb (decoded_number d) 12 ≡ false →
 has_object (Some o) e = refl
 has_object None e = let z : true ≡ false = e in cc
 
--- the object before a place, which stands so; before the first place there is none
-pub record Before (side : Side) (ws : List ℕ) (k : ℕ) (s : Option Standing) : Type 0 where
+-- the object before a place, which stands so; before the first place any object will do
+pub record Before (side : Side) (ws : List ℕ) (k : ℕ) (s : Standing) : Type 0 where
   pub object : Object
-  pub first : k ≡ 0 → s ≡ None
-  pub stands : 0 < k → s ≡ Some (standing_of object)
+  pub stands : standing_of object ≡ s
   pub decoded : 0 < k → decode_for side (get_or ws (k - 1) 0) ≡ Some object
 
 module _ (side : Side) (ws : List ℕ) where
@@ -93,18 +75,16 @@ module _ (side : Side) (ws : List ℕ) where
   standing_at k = standing_of (object_of (decode_for side (get_or ws k 0)))
 
   -- the judgement is by the rows of the place
-  by_rows : (k : ℕ) {s : Option Standing} {r : Result Standing Verdict} → Before side ws k s → Judges side (k + 1) s (get_or ws k 0) r
+  by_rows : (k : ℕ) {s : Standing} {r : Result Standing Verdict} → Before side ws k s → Judges side (eqb k 0) (k + 1) s (get_or ws k 0) r
       → r ≡ first_of err (word_rows side ws k) (Ok (standing_at k))
   unfolding judged_of first_of
-  by_rows zero b j = j None (sym (b.first refl))
+  by_rows zero b j = j b.object b.stands
   by_rows (suc k) b j =
-      j (Some b.object) (sym (b.stands (omega arith)))
-      ∙ ap (λ (d : Option Object). first_of err (word_refusals side false (suc k + 1) d (get_or ws (suc k) 0)) (Ok (standing_at (suc k))))
+      j b.object b.stands
+      ∙ ap (λ (d : Option Object). first_of err (word_refusals side (eqb (suc k) 0) (suc k + 1) d (get_or ws (suc k) 0)) (Ok (standing_at (suc k))))
       (sym (b.decoded (omega arith)))
-      ∙ ap (λ (t : Bool). first_of err (word_refusals side t (suc k + 1) (decode_for side (get_or ws (suc k - 1) 0)) (get_or ws (suc k) 0)) (Ok (standing_at (suc k))))
-      (sym (ne_eqb (suc k) 0 (λ e. omega (arith, e))))
 
-  module _ (k : ℕ) {s : Option Standing} {r : Result Standing Verdict} (b : Before side ws k s) (j : Judges side (k + 1) s (get_or ws k 0) r) where
+  module _ (k : ℕ) {s : Standing} {r : Result Standing Verdict} (b : Before side ws k s) (j : Judges side (eqb k 0) (k + 1) s (get_or ws k 0) r) where
     -- a word that is refused, whatever comes behind
     pub refused_word : {v : Verdict} → r ≡ Err v → (x : Result (Unit {0}) Verdict) → first_of err (word_rows side ws k) x ≡ Err v
     refused_word q x = refused_as (standing_at k) (word_rows side ws k) (sym (by_rows k b j) ∙ q) err x
@@ -119,12 +99,11 @@ module _ (side : Side) (ws : List ℕ) where
     fine_object q = has_object (decode_for side (get_or ws k 0)) (fine_word q).0
 
     -- and the next word has it before it
-    pub next_before : {t : Standing} → r ≡ Ok t → Before side ws (k + 1) (Some t)
+    pub next_before : {t : Standing} → r ≡ Ok t → Before side ws (k + 1) t
     next_before q =
         let z : k + 1 - 1 ≡ k = omega arith in record {
           object = object_of (decode_for side (get_or ws k 0));
-          first = λ e. absurd (omega (arith, e));
-          stands = λ h. ap Some (fine_standing q);
+          stands = sym (fine_standing q);
           decoded = λ h.
               ap (λ (i : ℕ). decode_for side (get_or ws i 0)) z ∙ fine_object q;
         }

@@ -64,23 +64,18 @@ rank_3 (standing.Pps x) r = absurd (omega (arith, r))
 
 -- ---- the words so far
 
--- the rank of what came before; of nothing the lowest
-abbrev pub earlier_rank : Option Standing → ℕ
-earlier_rank (Some s) = rank_at s
-earlier_rank None = 0
-
 -- no AVS word but the one at this place, and none at all while the ranks are lower
 pub record Alone (side : Side) (ws : List ℕ) (i earlier place : ℕ) : Type 0 where
   pub only : OnlyAvs side ws i place
   pub lower : earlier < 3 → place ≡ 0
 
-pub none_seen : (side : Side) (ws : List ℕ) → Alone side ws 0 0 0
-none_seen side ws = record {
+pub none_seen : (side : Side) (ws : List ℕ) (earlier : ℕ) → Alone side ws 0 earlier 0
+none_seen side ws earlier = record {
   only = record { short = omega arith; within = omega arith; others = λ k h f r. omega arith };
   lower = λ h. refl;
 }
 
-module _ (side : Side) (ws : List ℕ) (i place : ℕ) (s : Option Standing) (a : Alone side ws i (earlier_rank s) place) (b : Before side ws i s)
+module _ (side : Side) (ws : List ℕ) (i place : ℕ) (s : Standing) (a : Alone side ws i (rank_at s) place) (b : Before side ws i s)
     (below : i < 7) (x : NoneApply (word_rows side ws i)) (o : Object) (d : decode_for side (get_or ws i 0) ≡ Some o) where
   -- past the first word, the ranks do not fall
   follows : 0 < i → may_follow b.object o ≡ true
@@ -90,10 +85,10 @@ module _ (side : Side) (ws : List ℕ) (i place : ℕ) (s : Option Standing) (a 
       ∙ ap₂ (out_of_order false) (b.decoded h) d)
       ∙ x.1.1.1.1.0)
 
-  rank_before : 0 < i → earlier_rank s ≡ rank_of b.object
-  rank_before h = ap earlier_rank (b.stands h) ∙ sym (rank_in b.object)
+  rank_before : rank_at s ≡ rank_of b.object
+  rank_before = sym (rank_in b.object ∙ ap rank_at b.stands)
 
-  none_before : (0 < i → earlier_rank s < 3) → place ≡ 0
+  none_before : (0 < i → rank_at s < 3) → place ≡ 0
   none_before f = ⊎_elim (λ e. omega (arith, a.only.within, e)) (λ l. a.lower (f l)) (let h : 0 ≤ i = omega arith in eq-or-lt_of_le h)
 
   module _ {t : Standing} (e : t ≡ standing_of o) where
@@ -103,7 +98,7 @@ module _ (side : Side) (ws : List ℕ) (i place : ℕ) (s : Option Standing) (a 
     pub one_avs : t ≡ standing.Avs → Alone side ws (i + 1) (rank_at t) (i + 1)
     one_avs q =
         let r : rank_of o ≡ 3 = rank_now ∙ ap rank_at q in
-        let z = none_before (λ h. omega (arith, rank_before h, (rises b.object o (follows h)).1 r)) in record {
+        let z = none_before (λ h. omega (arith, rank_before, (rises b.object o (follows h)).1 r)) in record {
           only = record {
             short = omega arith;
             within = omega arith;
@@ -121,7 +116,7 @@ module _ (side : Side) (ws : List ℕ) (i place : ℕ) (s : Option Standing) (a 
             (λ u. f (rank_3 t (sym rank_now ∙ sym (ap (λ (y : Option Object). rank_of (object_of y)) (ap (λ (j : ℕ). decode_for side (get_or ws j 0)) u ∙ d)) ∙ r)))
             (λ l. a.only.others k l g r) (let l : k ≤ i = omega arith in eq-or-lt_of_le l);
       };
-      lower = λ h. none_before (λ l. omega (arith, h, rank_now, rank_before l, (rises b.object o (follows l)).0));
+      lower = λ h. none_before (λ l. omega (arith, h, rank_now, rank_before, (rises b.object o (follows l)).0));
     }
 
 -- ---- what is no AVS word has no row of 17

@@ -1,8 +1,7 @@
 -- How the word by word part of the shape check goes (STATEMENT, "Shape of a list"): parts of `shape_of`, named for the functions that
 -- work them out.
 -- Assumes nothing.
-use Rattle.std.specs.Prelude.{◌≡◌, ℕ, Bool, Result, Ok, Option, Some, None}
-use Rattle.std.specs.Option.{is_none}
+use Rattle.std.specs.Prelude.{◌≡◌, ℕ, Bool, Result, Ok, Some}
 use Rattle.verdicts.specs.declared.Verdict.{Verdict}
 use Rattle.verdicts.specs.Refusals.{first_of, err}
 use Rattle.objects.specs.declared.Side.{Side}
@@ -27,15 +26,10 @@ standing_of (Pps l x m a) = standing.Pps x
 abbrev pub Follows : Standing → Standing → Bool → Type 0
 Follows s t r = (before o : Object) → standing_of before ≡ s → standing_of o ≡ t → r ≡ may_follow before o
 
--- of the object before a word; before the first there is none
-abbrev pub standing_before : Option Object → Option Standing
-standing_before (Some o) = Some (standing_of o)
-standing_before None = None
-
 -- a word's first refusal, or how its object stands
-unfoldable pub judged_of : Side → ℕ → Option Object → ℕ → Result Standing Verdict
-judged_of side place before w =
-    first_of err (word_refusals side (is_none before) place before w) (Ok (standing_of (object_of (decode_for side w))))
+unfoldable pub judged_of : Side → Bool → ℕ → Object → ℕ → Result Standing Verdict
+judged_of side first place before w =
+    first_of err (word_refusals side first place (Some before) w) (Ok (standing_of (object_of (decode_for side w))))
 
-abbrev pub Judges : Side → ℕ → Option Standing → ℕ → Result Standing Verdict → Type 0
-Judges side place s w r = (before : Option Object) → standing_before before ≡ s → r ≡ judged_of side place before w
+abbrev pub Judges : Side → Bool → ℕ → Standing → ℕ → Result Standing Verdict → Type 0
+Judges side first place s w r = (before : Object) → standing_of before ≡ s → r ≡ judged_of side first place before w

@@ -18,7 +18,7 @@ use steps::{Ma10, Mv50};
 use verdicts::{PASSED, Verdict};
 pub use write_list::{finished, refuse, write};
 
-// Seven words and how many of them count. What lies past the count is not read.
+// Seven words and how many of them count. What lies past the count is not read. An array with a count beside it: C hands it on so.
 #[repr(C)]
 #[derive(Clone, Copy)]
 pub struct Words {
@@ -35,7 +35,7 @@ pub struct Place {
     pub object: Object,
 }
 
-// Seven objects and how many of them count. What lies past the count is not read.
+// Seven objects and how many of them count. What lies past the count is not read. An array with a count beside it: there is no heap.
 #[derive(Clone, Copy)]
 pub struct Objects {
     // The objects, in order.
@@ -44,7 +44,8 @@ pub struct Objects {
     pub count: u8,
 }
 
-// How a list stands before it is read: the first refusal, and how many words there are to read, none on a refusal.
+// How a list stands before it is read: the first refusal, and how many words there are to read, none on a refusal. No `Result`: what is promised
+// (`ShapesTo`, and `ReadableRefusals` of demands) names the count beside a refusal.
 #[derive(Clone, Copy)]
 pub struct Shaped {
     // The first refusal that applies, or success.
@@ -53,7 +54,8 @@ pub struct Shaped {
     pub count: u8,
 }
 
-// What reading gives: on a refusal the list is empty and all zero.
+// What reading gives: on a refusal the list is empty and all zero. No `Result`: what is promised (`Reads`, and `ReadRefusals` of demands) names the
+// list beside a refusal.
 #[derive(Clone, Copy)]
 pub struct Reading {
     // The first refusal that applies, or success.
@@ -62,7 +64,7 @@ pub struct Reading {
     pub list: Objects,
 }
 
-// A list of words with its verdict: on a refusal the list is empty and all zero.
+// A list of words with its verdict: on a refusal the list is empty and all zero. No `Result`: C hands it on.
 #[repr(C)]
 #[derive(Clone, Copy)]
 pub struct Listing {

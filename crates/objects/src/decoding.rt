@@ -30,6 +30,7 @@ fn battery(w: u32) -> Object
     }
 }
 
+// As `battery` but for the variant and the type of its last field: to say both once would take a trait for two lines.
 fn variable(w: u32) -> Object
     ensures { result ≡ variable_of w }
 {

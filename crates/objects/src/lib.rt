@@ -21,7 +21,8 @@ pub enum Side {
     Sink,
 }
 
-// The bits 31..30 of a fixed object. The kind of a word is told by these two bits, and where both are set by bits 31..28.
+// The bits 31..30 of a fixed object. The kind of a word is told by these two bits, and where both are set by bits 31..28. The seven numbers are
+// no enum: `is_kind` answers for every number (`TellsKind`), and no word is of any other.
 pub const BITS_FIXED: u32 = 0b00;
 
 // The bits 31..30 of a battery object.

@@ -1,15 +1,11 @@
--- The tables of refusals by value: when a verdict lets them pass, and what holds then. Each begins with the first refusal so far, whose
--- number is its own.
+-- The tables of refusals by value: each row that applies has a number. Each table begins with the first refusal so far, whose number is its
+-- own.
 -- Assumes nothing.
-use mathlib.Core.Path.{◌≡◌, refl, sym, ap, ◌∙◌}
-use mathlib.Core.Bool.{Bool, false, not}
-use mathlib.Core.List.{List, [], ◌++◌}
-use Prim.Native.Nat.{ℕ, ◌≤◌}
-use borrow.Author.Tests.{eq-eqb, ne_eqb, ltb-false}
-use Rattle.verdicts.specs.declared.Verdict.{Verdict}
-use Rattle.verdicts.specs.Refusals.{Refusal, first_of, verdict, success, verdict_of, NoneApply}
-use Rattle.verdicts.proofs.First.{hit, miss, none_left, none_right, onward, all_missed, is_number, numbered_append, Without, without_append, without_numbered, Telling, telling_given, none_told}
-use Rattle.steps.proofs.RangeLaws.{at_least}
+use mathlib.Core.Path.{◌≡◌, refl}
+use mathlib.Core.Bool.{false}
+use mathlib.Core.List.{◌++◌}
+use Prim.Native.Nat.{ℕ}
+use Rattle.verdicts.proofs.First.{is_number, numbered_append, Without, without_append, without_numbered, Telling, telling_given}
 use Rattle.requests.proofs.Answers.{answer_numbered}
 use Rattle.ports.specs.declared.Row.{Row}
 use Rattle.ports.specs.declared.Standing.{Standing}
@@ -17,24 +13,6 @@ use Rattle.ports.specs.RuleLists.{rule_list}
 use Rattle.ports.specs.Refusing.{sum_fault, no_such_port, cannot_attach, not_attached, own_refusals, no_power_now}
 use Rattle.ports.specs.Standing.{so_far, end_refusals, port_end_refusals}
 use Rattle.ports.specs.Deciding.{left_beside, attach_end_refusals, use_end_refusals, request_end_refusals}
-use Rattle.ports.proofs.Judged.{stops_at}
-
--- ---- a table that a function has judged, and lets pass
-
-module _ (xs : List Refusal) (t : Telling xs) (v : Verdict) (e : v ≡ verdict_of xs) (z : v.number ≡ 0) where
-  pub cleared : NoneApply xs
-  cleared = none_told xs t (ap (λ (u : Verdict). u.number) (sym e) ∙ z)
-
-  pub succeeded : v ≡ success
-  succeeded = e ∙ all_missed verdict success xs cleared
-
-  module _ {A : Type 0} (refused : ℕ → ℕ → A) (answer : A) where
-    pub answered : first_of refused xs answer ≡ answer
-    answered = all_missed refused answer xs cleared
-
-    -- the next table decides
-    pub left_to : (ys : List Refusal) → first_of refused (xs ++ ys) answer ≡ first_of refused ys answer
-    left_to ys = onward refused answer xs ys ∙ all_missed refused (first_of refused ys answer) xs cleared
 
 -- ---- the tables
 
@@ -83,41 +61,3 @@ module _ (capacity : ℕ) (s : Standing) where
 
       pub request_telling : (word : ℕ) → Telling (request_end_refusals capacity s y port word)
       request_telling word = request_without 0 refl capacity s (telling_given s.fault) port y word
-
--- ---- what holds where they let pass
-
-module _ (capacity : ℕ) (s : Standing) where
-  pub sum_fits : NoneApply (end_refusals capacity s) → s.held ≤ capacity
-  sum_fits x = ltb-false capacity s.held (none_right (so_far s) (sum_fault capacity s.held) x).0
-
-  module _ (port : ℕ) where
-    pub port_low : NoneApply (port_end_refusals capacity s port) → 1 ≤ port
-    port_low x = at_least 1 s.count port (none_right (end_refusals capacity s) (no_such_port s.count port) x).0
-
-    pub held_fits : NoneApply (port_end_refusals capacity s port) → s.held ≤ capacity
-    held_fits x = sum_fits (none_left (end_refusals capacity s) (no_such_port s.count port) x)
-
-    module _ (y : Row) where
-      pub attach_port : (cable : ℕ) → NoneApply (attach_end_refusals capacity s y port cable) → NoneApply (port_end_refusals capacity s port)
-      attach_port cable x = none_left (port_end_refusals capacity s port) (cannot_attach y port cable) x
-
-      pub use_port : NoneApply (use_end_refusals capacity s y port) → NoneApply (port_end_refusals capacity s port)
-      use_port x = none_left (port_end_refusals capacity s port) (not_attached y port) x
-
--- ---- what a call that needs an attached port says, behind what its port says
-
-module _ (capacity : ℕ) (s : Standing) (y : Row) (port : ℕ) (v : Verdict) (e : v ≡ verdict_of (port_end_refusals capacity s port)) where
-  pub use_stops : (v.number ≡ 0 → ⊥) → verdict_of (use_end_refusals capacity s y port) ≡ v
-  use_stops f = stops_at (port_end_refusals capacity s port) v e verdict success (not_attached y port) f
-
-  pub use_empty : v.number ≡ 0 → y.cable.0 ≡ 0 → verdict_of (use_end_refusals capacity s y port) ≡ verdict 35 port
-  use_empty z c =
-      left_to (port_end_refusals capacity s port) (port_telling capacity s port) v e z verdict success (not_attached y port)
-      ∙ hit verdict success 35 port [] (ap (λ (b : Bool). not (not b)) (eq-eqb y.cable.0 0 c))
-
-  pub use_passes : v.number ≡ 0 → (y.cable.0 ≡ 0 → ⊥) → verdict_of (use_end_refusals capacity s y port) ≡ v
-  use_passes z c =
-      left_to (port_end_refusals capacity s port) (port_telling capacity s port) v e z verdict success (not_attached y port)
-      ∙ miss verdict success 35 port [] (ap (λ (b : Bool). not (not b)) (ne_eqb y.cable.0 0 c))
-      ∙ all_missed verdict success [] tt
-      ∙ sym (succeeded (port_end_refusals capacity s port) (port_telling capacity s port) v e z)

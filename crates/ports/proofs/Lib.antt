@@ -5,6 +5,7 @@ pub mod Sums
 pub mod Passing
 pub mod Powers
 pub mod Judged
+pub mod Passed
 pub mod ByValue
 pub mod Requesting
 pub mod Asking

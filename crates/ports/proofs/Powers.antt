@@ -2,6 +2,7 @@
 -- Assumes nothing.
 use Rattle.std.specs.Prelude.{Option, Some, None}
 use mathlib.Core.Path.{◌≡◌, refl, sym, ap, ◌∙◌, subst}
+use mathlib.Core.Logic.{◌⊎◌, ⊎_elim}
 use Prim.Native.Nat.{ℕ, zero, suc, ◌*◌, ◌≤◌, ◌<◌, min}
 use native.Mathlib.Nat.{zero-mul, mul-le-mul, min-le_right}
 use native.Mathlib.Omega.{arith}
@@ -10,6 +11,7 @@ use Rattle.steps.specs.declared.Mv25.{Mv25}
 use Rattle.steps.specs.declared.Mv50.{Mv50}
 use Rattle.steps.specs.declared.Ma10.{Ma10}
 use Rattle.steps.specs.declared.Ma50.{Ma50}
+use Rattle.steps.specs.declared.Mw250.{Mw250}
 use Rattle.steps.specs.Units.{mv20, mv25, mv50, ma10, ma50}
 use Rattle.steps.specs.Rounding.{up_of}
 use Rattle.steps.proofs.RoundingLaws.{up_scaled, up_least}
@@ -71,6 +73,13 @@ module _ (w present : ℕ) where
   of_others (Variable x m a) h k l = ap (λ (n : ℕ). up_of n 500000) (sym (zero-mul (operating_of (request_of (Variable x m a) w))))
   of_others (Pps l x m a) h k n = absurd (h _ _ refl)
   of_others (Avs p l h) g k n = absurd (k _ _ refl)
+
+  -- as one to a battery or a variable object
+  pub no_voltage : (o : Object) {r : Request} → request_of o w ≡ r
+      → ((a : Mw250) × (m : Mw250) × (r ≡ asked.Battery a m)) ⊎ ((a : Ma10) × (m : Ma10) × (r ≡ asked.Variable a m)) → 0 ≡ power o
+  no_voltage o e = ⊎_elim
+      (λ t. let z = e ∙ t.2 in of_others o (λ v a q. cc) (λ v a q. cc) (λ a m q. cc))
+      (λ t. let z = e ∙ t.2 in of_others o (λ v a q. cc) (λ v a q. cc) (λ a m q. cc))
 
   -- only a fixed object has such a request
   pub fixed_alone : (o : Object) (a m : Ma10) → request_of o w ≡ asked.Fixed a m

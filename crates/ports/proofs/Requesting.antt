@@ -1,17 +1,19 @@
 -- A request by value: the object that it names in the list of its row, what that list answers, and the decisions in their order.
 -- Assumes nothing.
-use Rattle.std.specs.Prelude.{Option, Some, None}
-use mathlib.Core.Path.{◌≡◌, refl, sym, ap, ◌∙◌}
+use Rattle.std.specs.Prelude.{Option, Some, None, Result, Ok, Err}
+use Rattle.std.specs.Result.{IsErrAnd}
+use Rattle.std.proofs.lemmas.Result.{err_from_is_err_and}
+use mathlib.Core.Path.{◌≡◌, refl, sym, ap, ap₂, ◌∙◌}
 use mathlib.Core.Bool.{Bool, true, false, not, cond}
-use mathlib.Core.List.{[], ◌∷◌, ◌++◌}
+use mathlib.Core.List.{List, [], ◌∷◌, ◌++◌}
 use Prim.Native.Nat.{ℕ, zero, suc, ◌-◌, ◌≤◌, max}
 use native.Mathlib.Omega.{arith}
 use lib.Dec.{ltb, eqb}
 use lib.ListN.{get_or}
 use borrow.Author.Tests.{not-false, ltb-true, ltb-false, eqb-true, eqb-false}
 use Rattle.verdicts.specs.declared.Verdict.{Verdict}
-use Rattle.verdicts.specs.Refusals.{refusal, first_of, verdict, success, verdict_of, NoneApply}
-use Rattle.verdicts.proofs.First.{none_applied, onward, all_missed}
+use Rattle.verdicts.specs.Refusals.{Refusal, refusal, first_of, err, verdict, success, verdict_of}
+use Rattle.verdicts.proofs.First.{none_applied, all_missed}
 use Rattle.steps.specs.Ranges.{within}
 use Rattle.steps.proofs.RangeLaws.{inside, at_least, at_most}
 use Rattle.objects.specs.declared.Side.TheVariants.{Source}
@@ -28,7 +30,6 @@ use Rattle.rules.specs.Building.{built_words, built_of}
 use Rattle.rules.specs.Placing.{placed_in}
 use Rattle.rules.proofs.Builds.{build_numbered, build_clear, build_verdict, build_empty}
 use Rattle.rules.proofs.BuiltPasses.{shape_clear}
-use Rattle.rules.proofs.Places.{past_count, at_place}
 use Rattle.requests.specs.Taking.{position_of}
 use Rattle.requests.specs.Judging.{judged_of}
 use Rattle.requests.specs.Answering.{named_by, answer_of}
@@ -36,14 +37,14 @@ use Rattle.requests.proofs.Answers.{answer_numbered, answer_verdict, position_ze
 use Rattle.requests.proofs.Accepted.{accepted}
 use Rattle.ports.specs.declared.Row.{Row}
 use Rattle.ports.specs.declared.Standing.{Standing}
-use Rattle.ports.specs.declared.Change.{Change}
 use Rattle.ports.specs.Rows.{holding}
 use Rattle.ports.specs.RuleLists.{rule_profile, rule_list}
 use Rattle.ports.specs.Requests.{power_in, power_of, held_for, new_held}
 use Rattle.ports.specs.Refusing.{own_refusals, no_power_now}
-use Rattle.ports.specs.Deciding.{left_beside, no_change, changing, use_end_refusals, request_change}
+use Rattle.ports.specs.Deciding.{object_in, named_or_none, named_in, left_beside, use_end_refusals, request_end_refusals}
 use Rattle.ports.proofs.Asking.{accepts}
 use Rattle.ports.proofs.Judged.{stops_at, moves_on}
+use Rattle.ports.proofs.Passed.{went_past, meant}
 
 -- ---- the object that is named
 
@@ -60,7 +61,7 @@ allowed o e = let q = ap decoded_number e in omega (arith, q)
 
 module _ (l : Words) (w : ℕ) where
   abbrev pub named : Option Object
-  named = cond (within 1 l.count (position_of w)) (named_by l w) None
+  named = object_in l w
 
   pub placed_named : decoded_in (placed_in l (position_of w)) ≡ named
   unfolding placed_in
@@ -111,16 +112,6 @@ built_shaped p h = go (eqb (built_of p).verdict.number 0) refl where
 
 -- ---- a request that names no object: the list is empty, or has no such place
 
-abbrev pub refused_at : Option ℕ → Verdict
-refused_at (Some w) = verdict 20 0
-refused_at None = verdict 10 0
-
-pub first_place : (l : Words) → refused_at (placed_in l 1) ≡ cond (eqb l.count 0) (verdict 10 0) (verdict 20 0)
-first_place l = go (eqb l.count 0) refl where
-  go : (b : Bool) → eqb l.count 0 ≡ b → refused_at (placed_in l 1) ≡ cond b (verdict 10 0) (verdict 20 0)
-  go true t = let none = eqb-true l.count 0 t in ap refused_at (past_count l 1 (omega (arith, none)))
-  go false t = let some = not_0 l.count (eqb-false l.count 0 t) in ap refused_at (at_place l 1 (omega arith) some)
-
 module _ (y : Row) (w : ℕ) (e : named (rule_list y) w ≡ None) where
   abbrev l : Words
   l = rule_list y
@@ -159,39 +150,53 @@ module _ (y : Row) (w : ℕ) (o : Object) (n : Names (rule_list y) w o) where
   unfolding held_for power_of
   held_is = ap (λ (d : Option Object). max 15 (power_in d y.present.0 w)) n.names
 
+-- ---- what the list says, as results: the object that a request names, or the refusal of one that names none
+
+named_ok : (l : Words) (o : Object) (d : Option Object) → Ok o ≡ named_or_none l d → d ≡ Some o
+named_ok l o (Some p) q = cc
+named_ok l o None q = cc
+
+named_err : (l : Words) (e : Verdict) (d : Option Object) → Err e ≡ named_or_none l d → (d ≡ None) × (e ≡ cond (eqb l.count 0) (verdict 10 0) (verdict 20 0))
+named_err l e (Some p) q = cc
+named_err l e None q = (refl, cc)
+
+pub names_one : (l : Words) (w : ℕ) {o : Object} → Ok o ≡ named_in l w → Names l w o
+names_one l w {o} q = known_named l w o (named_ok l o (named l w) q)
+
+-- a refusal is that of the list
+pub names_none : (y : Row) (w : ℕ) {e : Verdict} → Err e ≡ named_in (rule_list y) w → (e ≡ answer_of (rule_list y) w) × (e.number ≡ 0 → ⊥)
+names_none y w {e} q =
+    let n = named_err (rule_list y) e (named (rule_list y) w) q in
+    let own = n.1 ∙ none_answers y w n.0 in
+    (own, (λ z. none_named (rule_list y) w n.0 (ap (λ (v : Verdict). v.number) (sym own) ∙ z)))
+
 -- ---- the decisions, in order: the port, the list's own answer, the power that is left
 
-module _ (capacity : ℕ) (s : Standing) (y : Row) (port word : ℕ) where
-  abbrev changed : Change
-  changed = changing port (holding y (new_held y word))
+module _ (capacity : ℕ) (s : Standing) (y : Row) (port word : ℕ) {left : ℕ}
+    (past : Ok left ≡ first_of err (use_end_refusals capacity s y port) (Ok (left_beside capacity s y))) (v : Verdict) (e : v ≡ answer_of (rule_list y) word) where
+  abbrev power : List Refusal
+  power = no_power_now (left_beside capacity s y) y port word
 
-  pub use_refused : (v : Verdict) → v ≡ verdict_of (use_end_refusals capacity s y port) → (v.number ≡ 0 → ⊥)
-      → no_change s v.number v.place ≡ request_change capacity s y port word
-  unfolding request_change
-  use_refused v e f =
-      sym (stops_at (use_end_refusals capacity s y port) v e (no_change s) changed (own_refusals y word
-      ++ no_power_now (left_beside capacity s y) y port word) f)
+  abbrev changed : Result Row Verdict
+  changed = Ok (holding y (new_held y word))
 
-  module _ (x : NoneApply (use_end_refusals capacity s y port)) (v : Verdict) (e : v ≡ answer_of (rule_list y) word) where
-    past_use : request_change capacity s y port word
-        ≡ first_of (no_change s) (own_refusals y word ++ no_power_now (left_beside capacity s y) y port word) changed
-    unfolding request_change
-    past_use =
-        onward (no_change s) changed (use_end_refusals capacity s y port) (own_refusals y word ++ no_power_now (left_beside capacity s y) y port word)
-        ∙ all_missed (no_change s) _ (use_end_refusals capacity s y port) x
+  own : v ≡ verdict_of (own_refusals y word)
+  own = e ∙ answer_verdict (rule_list y) word
 
-    own : v ≡ verdict_of (own_refusals y word)
-    own = e ∙ answer_verdict (rule_list y) word
+  pub own_stops : (v.number ≡ 0 → ⊥) → {r : Result Row Verdict} → IsErrAnd r (λ (x : Verdict). x ≡ v)
+      → r ≡ first_of err (request_end_refusals capacity s y port word) changed
+  own_stops f {r} h =
+      let out = err_from_is_err_and r h in
+      out.1
+      ∙ ap Err out.2
+      ∙ sym (went_past (use_end_refusals capacity s y port) (own_refusals y word ++ power) _ changed past
+      ∙ stops_at (own_refusals y word) v own err changed power f)
 
-    pub own_refused : (v.number ≡ 0 → ⊥) → no_change s v.number v.place ≡ request_change capacity s y port word
-    own_refused f = sym (past_use ∙ stops_at (own_refusals y word) v own (no_change s) changed (no_power_now (left_beside capacity s y) y port word) f)
-
-    pub power_decides : v.number ≡ 0 → (held : ℕ) → held ≡ new_held y word → (r : Change)
-        → r ≡ first_of (no_change s) (refusal (ltb (left_beside capacity s y) held) 36 port ∷ []) (changing port (holding y held))
-        → r ≡ request_change capacity s y port word
-    power_decides z held h r d =
-        d
-        ∙ ap (λ (n : ℕ). first_of (no_change s) (refusal (ltb (left_beside capacity s y) n) 36 port ∷ []) (changing port (holding y n))) h
-        ∙ sym (past_use
-        ∙ moves_on (own_refusals y word) v own (no_change s) changed (no_power_now (left_beside capacity s y) y port word)
-        (answer_numbered (rule_list y) word) z)
+  pub power_decides : v.number ≡ 0 → (held : ℕ) → held ≡ new_held y word → {r : Result Row Verdict}
+      → r ≡ first_of err (refusal (ltb left held) 36 port ∷ []) (Ok (holding y held))
+      → r ≡ first_of err (request_end_refusals capacity s y port word) changed
+  power_decides z held h d =
+      d
+      ∙ ap₂ (λ (m n : ℕ). first_of err (refusal (ltb m n) 36 port ∷ []) (Ok (holding y n))) (meant (use_end_refusals capacity s y port) _ past) h
+      ∙ sym (went_past (use_end_refusals capacity s y port) (own_refusals y word ++ power) _ changed past
+      ∙ moves_on (own_refusals y word) v own err changed power (answer_numbered (rule_list y) word) z)

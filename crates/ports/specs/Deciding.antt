@@ -1,12 +1,18 @@
 -- What each sharing call decides from how the rows stand and from the port's own row: its answer, and the row to write (STATEMENT,
 -- "Calls"). That this is what the lent rows say is shown in proofs/.
 -- Assumes nothing.
-use Rattle.std.specs.Prelude.{Bool, not, List, [], ◌∷◌, ◌++◌, ℕ, ◌+◌, ◌-◌, eqb}
+use Rattle.std.specs.Prelude.{Bool, cond, not, List, [], ◌∷◌, ◌++◌, ℕ, ◌+◌, ◌-◌, eqb, Option, Some, None, Result, Ok, Err}
+use Rattle.verdicts.specs.declared.Verdict.{Verdict}
 use Rattle.verdicts.specs.Refusals.{Refusal, refusal, first_of, verdict, success}
+use Rattle.steps.specs.Ranges.{within}
+use Rattle.objects.specs.declared.Object.{Object}
+use Rattle.lists.specs.declared.Words.{Words}
 use Rattle.lists.specs.declared.Listing.{Listing}
 use Rattle.lists.specs.Writing.{write_refused}
 use Rattle.rules.specs.Profiles.{half_watts}
 use Rattle.rules.specs.Building.{built_of}
+use Rattle.requests.specs.Taking.{position_of}
+use Rattle.requests.specs.Answering.{named_by}
 use Rattle.ports.specs.declared.Row.{Row}
 use Rattle.ports.specs.declared.Standing.{Standing}
 use Rattle.ports.specs.declared.Change.{Change}
@@ -33,6 +39,23 @@ no_change s n p = record { answer = verdict n p; at = s.count; row = no_row }
 -- a row changed
 abbrev pub changing : ℕ → Row → Change
 changing port y = record { answer = success; at = port - 1; row = y }
+
+-- the change that a result tells
+abbrev pub change_told : Standing → ℕ → Result Row Verdict → Change
+change_told s port (Ok y) = changing port y
+change_told s port (Err v) = no_change s v.number v.place
+
+-- the object that a request names in a list
+abbrev pub object_in : Words → ℕ → Option Object
+object_in l w = cond (within 1 l.count (position_of w)) (named_by l w) None
+
+-- where the list has no such place: 10 if it is empty, else 20
+abbrev pub named_or_none : Words → Option Object → Result Object Verdict
+named_or_none l (Some o) = Ok o
+named_or_none l None = Err (cond (eqb l.count 0) (verdict 10 0) (verdict 20 0))
+
+abbrev pub named_in : Words → ℕ → Result Object Verdict
+named_in l w = named_or_none l (object_in l w)
 
 abbrev pub attach_end_refusals : ℕ → Standing → Row → ℕ → ℕ → List Refusal
 attach_end_refusals capacity s y port cable = port_end_refusals capacity s port ++ cannot_attach y port cable

@@ -1,6 +1,7 @@
 -- The sharing calls over the lent rows: the answer of each, and every row at exit, from the rows at entry (STATEMENT, "Calls").
 -- Assumes nothing.
-use Rattle.std.specs.Prelude.{List, map, ℕ, ◌-◌, set}
+use Rattle.std.specs.Prelude.{List, map, ℕ, ◌-◌, set, Result, Ok, Err}
+use Rattle.steps.specs.declared.HalfWatts.{HalfWatts}
 use Rattle.verdicts.specs.declared.Verdict.{Verdict}
 use Rattle.verdicts.specs.Refusals.{Refusal, first_of, verdict, verdict_of, success}
 use Rattle.lists.specs.declared.Listing.{Listing}
@@ -74,6 +75,11 @@ detach_rows capacity ys port =
 
 abbrev pub no_power_left : ℕ → ℕ → RemainingPower
 no_power_left n p = record { verdict = verdict n p; power = half_watts 0 }
+
+-- the power that a result tells
+abbrev pub power_told : Result HalfWatts Verdict → RemainingPower
+power_told (Ok h) = record { verdict = success; power = h }
+power_told (Err v) = no_power_left v.number v.place
 
 unfoldable pub remaining_answer : ℕ → List Row → RemainingPower
 remaining_answer capacity ys =

@@ -3,19 +3,21 @@
 
 #![tactic(auto)]
 
+ghost use Rattle.std.specs.Prelude.{◌≡◌};
+ghost use Rattle.ports.specs.Standing.{standing};
+ghost use Rattle.ports.specs.Lending.{power_told};
 ghost use Rattle.ports.specs.Promises.{Empties};
 
 mod deciding;
-mod held;
 mod judging;
 mod power;
-mod refusing;
+mod seat;
 mod soundness;
 
 pub use deciding::{advertise, attach, detach, offer, remaining, request};
 pub use judging::{all_or_none, begin, goes_on, place_of, take_row};
 use steps::{HalfWatts, Ma10};
-use verdicts::Verdict;
+use verdicts::{PASSED, Verdict};
 
 // One port. Fill in `max` and `pps` before set-up; the calls see to the rest.
 #[repr(C)]
@@ -42,13 +44,14 @@ pub const NO_ROW: Row = Row {
     held: HalfWatts(0),
 };
 
-// For `take_row`, at set-up: a pass over the rows asks of each that it can be set up (31, 4).
+// For `take_row`, at set-up: a pass over the rows asks of each that it can be set up (31, 4). These are two names of a bool and no enum,
+// since the theorem `Never21` of `demands` speaks of a bool.
 pub const FRESH: bool = true;
 
 // For `take_row`, in every other call: a pass over the rows asks of each that it is as the calls leave it (37).
 pub const SOUND: bool = false;
 
-// How the rows stand, as far as they were looked at.
+// How the rows stand, as far as they were looked at. What they hold stands beside a refusal too (`TakesRow`), so this is no `Result`.
 #[derive(Clone, Copy)]
 pub struct Standing {
     // The first refusal, or success.
@@ -59,7 +62,17 @@ pub struct Standing {
     pub held: u32,
 }
 
-// What a call decides: the answer, and the row to write.
+impl Standing {
+    // Whether nothing is refused so far.
+    pub(crate) fn stands(self) -> bool
+        ensures { result ≡ standing self }
+    {
+        self.fault.number == verdicts::SUCCESS
+    }
+}
+
+// What a call decides: the answer, and the row to write. `Attaches` and its kin say which place and row stand beside a refusal, which a
+// `Result` could not say.
 #[derive(Clone, Copy)]
 pub struct Change {
     // The first refusal that applies, or success.
@@ -70,7 +83,7 @@ pub struct Change {
     pub row: Row,
 }
 
-// Remaining power with its verdict: zero on a refusal.
+// Remaining power with its verdict: zero on a refusal. C gets this struct, so it is no `Result`.
 #[repr(C)]
 #[derive(Clone, Copy)]
 pub struct RemainingPower {
@@ -80,16 +93,33 @@ pub struct RemainingPower {
     pub power: HalfWatts,
 }
 
+// What is left, from a call that went on by `?`: none on a refusal.
+impl From<Result<HalfWatts, Verdict>> for RemainingPower {
+    ghost from_gives = { λ r p. p ≡ power_told r };
+
+    fn from(left: Result<HalfWatts, Verdict>) -> RemainingPower {
+        match left {
+            Ok(power) => RemainingPower {
+                verdict: PASSED,
+                power,
+            },
+            Err(verdict) => RemainingPower {
+                verdict,
+                power: HalfWatts(0),
+            },
+        }
+    }
+}
+
 // The row of an empty port: no cable, no present power, 15 half watts held. M and PPS wanted stay. Nothing is refused.
+#[tactic(auto, unfolding(crate::specs::Rows::emptied))]
 pub fn emptied(row: Row) -> Row
     ensures { Empties row result }
 {
-    let max = row.max;
     Row {
-        max,
-        pps: row.pps,
         cable: Ma10(0),
         present: HalfWatts(0),
         held: HalfWatts(15),
+        ..row
     }
 }

@@ -9,48 +9,41 @@ use objects::Object;
 use requests::Request;
 use steps::{HalfWatts, Ma10, Ma50, Mv20, Mv25, Mv50};
 
+#[tactic(auto, using(crate::proofs::Powers::fixed_steps))]
 fn fixed_power(volts: Mv50, operating: Ma10) -> u32
     ensures { result ≡ up_of (mv50 volts * ma10 operating) 500000 }
 {
-    steps::round_up((volts.0 as u32) * (operating.0 as u32), 1000)
+    steps::round_up(u32::from(volts.0) * u32::from(operating.0), 1000)
 }
 
+#[tactic(auto, using(crate::proofs::Powers::avs_steps))]
 fn avs_power(volts: Mv25, current: Ma50) -> u32
     ensures { result ≡ up_of (mv25 volts * ma50 current) 500000 }
 {
-    steps::round_up((volts.0 as u32) * (current.0 as u32), 400)
+    steps::round_up(u32::from(volts.0) * u32::from(current.0), 400)
 }
 
+#[tactic(auto, using(crate::proofs::Powers::pps_steps))]
 fn pps_power(volts: Mv20, current: Ma50, present: HalfWatts) -> u32
     ensures { result ≡ min present.0 (up_of (mv20 volts * ma50 current) 500000) }
 {
-    let power = steps::round_up((volts.0 as u32) * (current.0 as u32), 500);
-    let cut = present.0 as u32;
-    if cut < power {
-        return cut;
-    }
-    power
+    let power = steps::round_up(u32::from(volts.0) * u32::from(current.0), 500);
+    power.min(u32::from(present.0))
 }
 
 // Neither battery nor variable objects stand in a rule list, and their requests name no voltage: they count as nothing.
 fn object_power(o: Object, present: HalfWatts, word: u32) -> u32
     ensures { result ≡ cut_for o present.0 (half_watts_for o word) }
 {
-    let asked = requests::take_apart(o, word);
-    let request = asked.request;
-    if let Request::Pps { volts, current } = request {
-        return pps_power(volts, current, present);
+    match requests::take_apart(o, word).request {
+        Request::Fixed { operating, .. } => match o {
+            Object::Fixed { volts, .. } => fixed_power(volts, operating),
+            _ => 0,
+        },
+        Request::Battery { .. } | Request::Variable { .. } => 0,
+        Request::Pps { volts, current } => pps_power(volts, current, present),
+        Request::Avs { volts, current } => avs_power(volts, current),
     }
-    if let Request::Avs { volts, current } = request {
-        return avs_power(volts, current);
-    }
-    let Request::Fixed { operating, .. } = request else {
-        return 0;
-    };
-    let Object::Fixed { volts, .. } = o else {
-        return 0;
-    };
-    fixed_power(volts, operating)
 }
 
 // What an accepted request holds: the larger of 15 and its power.
@@ -58,9 +51,6 @@ pub(crate) fn held_for(o: Object, present: HalfWatts, word: u32) -> HalfWatts
     requires { cut_for o present.0 (half_watts_for o word) < 65536 }
     ensures { result.0 ≡ max 15 (cut_for o present.0 (half_watts_for o word)) }
 {
-    let power = object_power(o, present, word);
-    if power < 15 {
-        return HalfWatts(15);
-    }
-    HalfWatts(power as u16)
+    let held = object_power(o, present, word).max(15);
+    HalfWatts(held as u16)
 }

@@ -1,5 +1,5 @@
--- What the listing program prints for an input (STATEMENT, "The listing program"). `caps` is proved to make each of these lines,
--- `record_line` and `end_line`; no contract can say in which order the standard output gets them.
+-- What the listing program prints for an input (STATEMENT, "The listing program"). `caps` is proved to write `printed_of` of its
+-- input, over any source and any writer whose bytes are known; std does not say which bytes the process's own streams have.
 -- Assumes nothing.
 use Rattle.std.specs.Prelude.{List, [], ◌++◌, ℕ, zero, suc, ◌*◌, ◌/◌, ◌%◌, length}
 use Rattle.lists.specs.Writing.{write_refused}

@@ -1,15 +1,17 @@
 -- The cases of the answer to a request, in order, and that every refusal has a number.
 -- Assumes nothing.
-use Rattle.std.specs.Prelude.{Option, Some, None}
-use mathlib.Core.Path.{◌≡◌, refl, ◌∙◌}
+use Rattle.std.specs.Prelude.{Option, Some, None, Result, Ok, Err}
+use mathlib.Core.Path.{◌≡◌, refl, sym, ap, ◌∙◌}
 use mathlib.Core.Bool.{true, false}
 use Prim.Native.Nat.{ℕ, ◌-◌, ◌<◌, ◌≤◌}
 use native.Mathlib.Omega.{arith}
 use lib.Dec.{ltb}
 use borrow.Author.Tests.{lt-ltb, le-ltb, ltb-false}
 use Rattle.verdicts.proofs.Bools.{either_false}
-use Rattle.verdicts.specs.Refusals.{verdict, success, verdict_of}
+use Rattle.verdicts.specs.declared.Verdict.{Verdict}
+use Rattle.verdicts.specs.Refusals.{first_of, err, passed_by, passed_of, verdict, success, verdict_of}
 use Rattle.verdicts.proofs.First.{hit, miss, onward, numbered, numbered_append}
+use Rattle.verdicts.proofs.Results.{went_on, stopped_as, stopped_not_0}
 use Rattle.objects.specs.declared.Side.TheVariants.{Source}
 use Rattle.objects.specs.declared.Object.{Object}
 use Rattle.lists.specs.declared.Words.{Words}
@@ -61,25 +63,48 @@ module _ (l : Words) (w : ℕ) where
   unfolding answer_of
   answer_verdict = refl
 
-  -- ---- the cases, in order
+  -- ---- the cases, in order: whatever the refusals make, and whatever the answer is where there is none
+
+  module _ {A : Type 0} (refused : ℕ → ℕ → A) (answer : A) where
+    misshapen_as : ((shape_of l).number ≡ 0 → ⊥) → first_of refused (answer_refusals l w) answer ≡ refused (shape_of l).number (shape_of l).place
+    misshapen_as f = onward refused answer (shape_refusals l) _ ∙ as_shape_refused refused Source l _ f
+
+    module _ (shaped : (shape_of l).number ≡ 0) where
+      pub misplaced_as : bad_position l.count (position_of w) ≡ true → first_of refused (answer_refusals l w) answer ≡ refused 20 0
+      misplaced_as e =
+          onward refused answer (shape_refusals l) _ ∙ as_shape_passes refused Source l _ shaped ∙ hit refused answer 20 0 _ e
+
+      pub judged_as : (o : Object) → bad_position l.count (position_of w) ≡ false → named_by l w ≡ Some o
+          → first_of refused (answer_refusals l w) answer ≡ first_of refused (refusals_of o w) answer
+      judged_as o e d =
+          onward refused answer (shape_refusals l) _
+          ∙ as_shape_passes refused Source l _ shaped
+          ∙ miss refused answer 20 0 _ e
+          ∙ ap (λ (n : Option Object). first_of refused (named_refusals n w) answer) d
+
+  -- where `?` goes on past the shape
+  pub shaped_on : {v : Verdict} {r : Result (Unit {0}) Verdict} {u : Unit {0}} → v ≡ shape_of l → r ≡ passed_of v → r ≡ Ok u → (shape_of l).number ≡ 0
+  shaped_on e p q = went_on (shape_of l) (ap passed_of (sym e) ∙ sym p ∙ q)
+
+  -- as `?` hands on the refusal of a shape
+  pub misshapen_on : {e : Verdict} → passed_of (shape_of l) ≡ Err e → passed_by (answer_refusals l w) ≡ Err e
+  misshapen_on {e} q =
+      misshapen_as err (Ok tt) (stopped_not_0 (shape_of l) q) ∙ ap Err (sym (stopped_as (shape_of l) q))
+
+  -- ---- the same, of the verdict
 
   pub misshapen : ((shape_of l).number ≡ 0 → ⊥) → answer_of l w ≡ shape_of l
   unfolding answer_of
-  misshapen f = onward verdict success (shape_refusals l) _ ∙ as_shape_refused verdict Source l _ f
+  misshapen f = misshapen_as verdict success f
 
   module _ (shaped : (shape_of l).number ≡ 0) where
     pub misplaced : bad_position l.count (position_of w) ≡ true → answer_of l w ≡ verdict 20 0
     unfolding answer_of
-    misplaced e =
-        onward verdict success (shape_refusals l) _ ∙ as_shape_passes verdict Source l _ shaped ∙ hit verdict success 20 0 _ e
+    misplaced e = misplaced_as verdict success shaped e
 
     pub judged : (o : Object) → bad_position l.count (position_of w) ≡ false → named_by l w ≡ Some o → answer_of l w ≡ judged_of o w
     unfolding answer_of judged_of
-    judged o e d =
-        onward verdict success (shape_refusals l) _
-        ∙ as_shape_passes verdict Source l _ shaped
-        ∙ miss verdict success 20 0 _ e
-        ∙ rw d
+    judged o e d = judged_as verdict success shaped o e d
 
     -- a list whose shape passes has an object in every word
     pub names_object : 1 ≤ position_of w → position_of w ≤ l.count → named_by l w ≡ Some (object_of (named_by l w))

@@ -12,7 +12,7 @@ use borrow.Author.Tests.{eq-eqb, eqb-true, eqb-false, le-leb, lt-leb, leb-true, 
 use Rattle.steps.specs.Ranges.{within}
 use Rattle.steps.proofs.RangeLaws.{inside}
 use Rattle.verdicts.specs.declared.Verdict.{Verdict}
-use Rattle.verdicts.specs.Refusals.{verdict, success}
+use Rattle.verdicts.specs.Refusals.{verdict, success, verdict_of}
 use Rattle.steps.specs.Units.{mv25, ma10, ma50}
 use Rattle.steps.specs.declared.Ma10.{Ma10}
 use Rattle.objects.specs.declared.Object.TheVariants.{Avs}
@@ -20,10 +20,10 @@ use Rattle.lists.specs.declared.Words.{Words}
 use Rattle.requests.specs.Taking.{position_of, mismatch_of, avs_volts, current_in}
 use Rattle.requests.specs.Limits.{avs_top, avs_limit}
 use Rattle.requests.specs.Answering.{answer_of}
-use Rattle.requests.specs.Judging.{judged_of}
+use Rattle.requests.specs.Judging.{refusals_of}
 use Rattle.requests.proofs.Limits.{over, allowed, no_maximum}
 use Rattle.requests.proofs.AvsLimits.{ends_at_15_V, ends_at_20_V, limit_below, limit_above, limit_at_lem}
-use Rattle.requests.proofs.Answers.{position_good, judged}
+use Rattle.requests.proofs.Answers.{position_good, judged, judged_verdict}
 use Rattle.requests.specs.At15V.{AsksAvs, AllowsUpTo}
 
 -- ---- how the limit decides
@@ -39,10 +39,11 @@ decides v asked limit accepts refuses = ((λ e. go (leb asked limit) refl e), ac
 
 module _ (l : Words) (w : ℕ) (low high : Ma10) (asks : AsksAvs l w low high) where
   -- the answer is that of the limits of the object
-  by_limits : answer_of l w ≡ judged_of (Avs asks.peak low high) w
+  by_limits : answer_of l w ≡ verdict_of (refusals_of (Avs asks.peak low high) w)
   by_limits =
       judged l w (ap (λ (v : Verdict). v.number) asks.shape_passes) (Avs asks.peak low high)
       (position_good l.count (position_of w) asks.from_1 asks.to_count) asks.names
+      ∙ judged_verdict (Avs asks.peak low high) w
 
   module _ (whole : mv25 (avs_volts w) % 100 ≡ 0) (from : 9000 ≤ mv25 (avs_volts w)) (to : mv25 (avs_volts w) ≤ avs_top high)
       (limit : ℕ) (is : avs_limit (mv25 (avs_volts w)) (ma10 low) (ma10 high) ≡ limit) where
@@ -56,13 +57,13 @@ module _ (l : Words) (w : ℕ) (low high : Ma10) (asks : AsksAvs l w low high) w
     accepts h =
         let at_most = avs_limit (mv25 (avs_volts w)) (ma10 low) (ma10 high) in
         by_limits
-        ∙ allowed (Avs asks.peak low high) w whole_step_lem in_range_lem (ap not (le-leb (ma50 (current_in w)) at_most (omega arith)))
+        ∙ allowed verdict success (Avs asks.peak low high) w whole_step_lem in_range_lem (ap not (le-leb (ma50 (current_in w)) at_most (omega arith)))
         (no_maximum at_most (mismatch_of w))
 
     refuses : limit < ma50 (current_in w) → answer_of l w ≡ verdict 24 0
     refuses h =
         let at_most = avs_limit (mv25 (avs_volts w)) (ma10 low) (ma10 high) in
-        by_limits ∙ over (Avs asks.peak low high) w whole_step_lem in_range_lem (ap not (lt-leb (ma50 (current_in w)) at_most (omega arith)))
+        by_limits ∙ over verdict success (Avs asks.peak low high) w whole_step_lem in_range_lem (ap not (lt-leb (ma50 (current_in w)) at_most (omega arith)))
 
     up_to : AllowsUpTo l w limit
     up_to = record { accepted = decides (answer_of l w) (ma50 (current_in w)) limit accepts refuses; refused = refuses }

@@ -1,5 +1,6 @@
 -- AVS requests: the whole 100 mV, where the range ends, the current that limits, and the cases that the code tells apart.
 -- Assumes nothing.
+use Rattle.std.specs.Prelude.{Ok}
 use mathlib.Core.Path.{◌≡◌, sym, ap, ◌∙◌}
 use mathlib.Core.Bool.{true, false, not}
 use Prim.Native.Nat.{ℕ, ◌*◌, ◌/◌, ◌%◌, ◌<◌, ◌≤◌, max}
@@ -9,14 +10,14 @@ use lib.Dec.{eqb}
 use borrow.Author.Tests.{lt-ltb, le-ltb, le-leb, lt-leb, eq-eqb, ne_eqb}
 use Rattle.steps.specs.Ranges.{within}
 use Rattle.steps.proofs.RangeLaws.{too_low, too_high, inside}
-use Rattle.verdicts.specs.Refusals.{verdict, success}
+use Rattle.verdicts.specs.Refusals.{err, passed_by}
 use Rattle.steps.specs.Units.{ma10}
 use Rattle.steps.specs.declared.Ma10.{Ma10}
 use Rattle.objects.specs.Bits.{bits}
 use Rattle.objects.specs.declared.Object.TheVariants.{Avs}
 use Rattle.requests.specs.Taking.{mismatch_of}
 use Rattle.requests.specs.Limits.{avs_top, avs_limit}
-use Rattle.requests.specs.Judging.{judged_of}
+use Rattle.requests.specs.Judging.{refusals_of}
 use Rattle.requests.proofs.Limits.{not_whole, outside, over, allowed, no_maximum}
 
 -- 100 mV is four steps of 25 mV
@@ -56,19 +57,19 @@ module _ (mv first second : ℕ) where
 
 -- v and i are the figures of the voltage and of the current, as the code has them
 module _ (p : ℕ) (low high : Ma10) (w v : ℕ) (ev : v ≡ bits w 20 9) where
-  pub avs_not_whole : (v % 4 ≡ 0 → ⊥) → judged_of (Avs p low high) w ≡ verdict 23 0
-  avs_not_whole f = not_whole (Avs p low high) w (not_whole_100 (bits w 20 9) (λ e. f (ap (λ (n : ℕ). n % 4) ev ∙ e)))
+  pub avs_not_whole : (v % 4 ≡ 0 → ⊥) → passed_by (refusals_of (Avs p low high) w) ≡ err 23 0
+  avs_not_whole f = not_whole err (Ok tt) (Avs p low high) w (not_whole_100 (bits w 20 9) (λ e. f (ap (λ (n : ℕ). n % 4) ev ∙ e)))
 
   module _ (whole : v % 4 ≡ 0) where
     avs_whole : not (eqb (bits w 20 9 * 25 % 100) 0) ≡ false
     avs_whole = whole_100 (bits w 20 9) (ap (λ (n : ℕ). n % 4) (sym ev) ∙ whole)
 
-    pub avs_under : v < 360 → judged_of (Avs p low high) w ≡ verdict 22 0
-    avs_under h = outside (Avs p low high) w avs_whole (too_low 9000 (avs_top high) (bits w 20 9 * 25) (omega arith))
+    pub avs_under : v < 360 → passed_by (refusals_of (Avs p low high) w) ≡ err 22 0
+    avs_under h = outside err (Ok tt) (Avs p low high) w avs_whole (too_low 9000 (avs_top high) (bits w 20 9 * 25) (omega arith))
 
     module _ (from : 360 ≤ v) (t : ℕ) (top : t * 25 ≡ avs_top high) where
-      pub avs_beyond : t < v → judged_of (Avs p low high) w ≡ verdict 22 0
-      avs_beyond h = outside (Avs p low high) w avs_whole (too_high 9000 (avs_top high) (bits w 20 9 * 25) (omega arith) (omega arith))
+      pub avs_beyond : t < v → passed_by (refusals_of (Avs p low high) w) ≡ err 22 0
+      avs_beyond h = outside err (Ok tt) (Avs p low high) w avs_whole (too_high 9000 (avs_top high) (bits w 20 9 * 25) (omega arith) (omega arith))
 
       module _ (to : v ≤ t) (x i : ℕ) (limit : x * 10 ≡ avs_limit (v * 25) (ma10 low) (ma10 high)) (ei : i ≡ bits w 6 0) where
         avs_inside : not (within 9000 (avs_top high) (bits w 20 9 * 25)) ≡ false
@@ -77,10 +78,10 @@ module _ (p : ℕ) (low high : Ma10) (w v : ℕ) (ev : v ≡ bits w 20 9) where
         avs_limit_lem : x * 10 ≡ avs_limit (bits w 20 9 * 25) (ma10 low) (ma10 high)
         avs_limit_lem = limit ∙ ap (λ (n : ℕ). avs_limit (n * 25) (ma10 low) (ma10 high)) ev
 
-        pub avs_over : x < i * 5 → judged_of (Avs p low high) w ≡ verdict 24 0
-        avs_over h = over (Avs p low high) w avs_whole avs_inside (ap not (lt-leb (bits w 6 0 * 50) _ (omega (arith, avs_limit_lem))))
+        pub avs_over : x < i * 5 → passed_by (refusals_of (Avs p low high) w) ≡ err 24 0
+        avs_over h = over err (Ok tt) (Avs p low high) w avs_whole avs_inside (ap not (lt-leb (bits w 6 0 * 50) _ (omega (arith, avs_limit_lem))))
 
-        pub avs_allowed : i * 5 ≤ x → judged_of (Avs p low high) w ≡ success
+        pub avs_allowed : i * 5 ≤ x → passed_by (refusals_of (Avs p low high) w) ≡ Ok tt
         avs_allowed h =
-            allowed (Avs p low high) w avs_whole avs_inside (ap not (le-leb (bits w 6 0 * 50) _ (omega (arith, avs_limit_lem))))
+            allowed err (Ok tt) (Avs p low high) w avs_whole avs_inside (ap not (le-leb (bits w 6 0 * 50) _ (omega (arith, avs_limit_lem))))
             (no_maximum (avs_limit (bits w 20 9 * 25) (ma10 low) (ma10 high)) (mismatch_of w))

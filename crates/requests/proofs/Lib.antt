@@ -1,8 +1,9 @@
+pub mod Comparing
+pub mod Options
 pub mod Limits
 pub mod Figures
 pub mod PpsLimits
 pub mod AvsLimits
-pub mod FiveKinds
 pub mod Answers
 pub mod Accepted
 pub mod At15V

@@ -19,12 +19,12 @@ refusals_of o w =
 unfoldable pub judged_of : Object → ℕ → Verdict
 judged_of o w = verdict_of (refusals_of o w)
 
--- ---- parts of `judged_of`, named for the functions that work them out
+-- ---- a part of `judged_of`, named for the functions that work them out
 
 -- "24, 25", where each figure is larger than the advertised one or not; the maximum figure may be, where bit 26 is set
 abbrev pub figure_rows : Bool → Bool → ℕ → List Refusal
 figure_rows operatingLarger maximumLarger w = refusal operatingLarger 24 0 ∷ refusal (maximumLarger && not (mismatch_of w)) 25 0 ∷ []
 
--- two figures and the advertised one, all in one step
-unfoldable pub figures_of : ℕ → ℕ → Verdict
-figures_of advertised w = verdict_of (figure_rows (ltb advertised (operating_in w)) (ltb advertised (maximum_in w)) w)
+-- two figures against the advertised one, all in one step
+abbrev pub figure_refusals : ℕ → ℕ → List Refusal
+figure_refusals advertised w = figure_rows (ltb advertised (operating_in w)) (ltb advertised (maximum_in w)) w

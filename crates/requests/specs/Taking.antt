@@ -27,11 +27,14 @@ abbrev pub maximum_in : ℕ → ℕ
 maximum_in w = bits w 9 0
 
 -- PPS and AVS: bits 20..9 are "voltage, 20 mV" or "voltage, 25 mV", bits 6..0 "current, 50 mA"
+abbrev pub volts_in : ℕ → ℕ
+volts_in w = bits w 20 9
+
 abbrev pub pps_volts : ℕ → Mv20
-pps_volts w = record { 0 = bits w 20 9 }
+pps_volts w = record { 0 = volts_in w }
 
 abbrev pub avs_volts : ℕ → Mv25
-avs_volts w = record { 0 = bits w 20 9 }
+avs_volts w = record { 0 = volts_in w }
 
 abbrev pub current_in : ℕ → Ma50
 current_in w = record { 0 = bits w 6 0 }

@@ -1,6 +1,6 @@
 // A request word taken apart. Every bit place of a request that counts stands here. No other is looked at: reserved bits are ignored.
 ghost use Rattle.std.specs.Prelude.{◌≡◌};
-ghost use Rattle.requests.specs.Taking.{mismatch_of, operating_in, maximum_in, pps_volts, avs_volts, current_in, request_of};
+ghost use Rattle.requests.specs.Taking.{mismatch_of, operating_in, maximum_in, volts_in, current_in, request_of};
 ghost use Rattle.requests.specs.Promises.{NamesPlace, TakesApart};
 
 use crate::{Asked, Request};
@@ -20,42 +20,24 @@ pub(crate) fn mismatch(word: u32) -> bool
     (word >> 26) & 0x1 != 0
 }
 
-// Fixed, battery and variable share their bit places, but not the step of the figures.
-pub(crate) fn operating_current(word: u32) -> Ma10
-    ensures { result.0 ≡ operating_in word }
+// The two figures of fixed, battery and variable share their bit places. Each counts steps of the object: 10 mA, of a battery 250 mW.
+pub(crate) fn operating(word: u32) -> u16
+    ensures { result ≡ operating_in word }
 {
-    Ma10(((word >> 10) & 0x3FF) as u16)
+    ((word >> 10) & 0x3FF) as u16
 }
 
-pub(crate) fn maximum_current(word: u32) -> Ma10
-    ensures { result.0 ≡ maximum_in word }
+pub(crate) fn maximum(word: u32) -> u16
+    ensures { result ≡ maximum_in word }
 {
-    Ma10((word & 0x3FF) as u16)
+    (word & 0x3FF) as u16
 }
 
-pub(crate) fn operating_power(word: u32) -> Mw250
-    ensures { result.0 ≡ operating_in word }
+// PPS and AVS share their bit places. A PPS voltage counts 20 mV, and an AVS voltage 25 mV.
+pub(crate) fn volts(word: u32) -> u16
+    ensures { result ≡ volts_in word }
 {
-    Mw250(((word >> 10) & 0x3FF) as u16)
-}
-
-pub(crate) fn maximum_power(word: u32) -> Mw250
-    ensures { result.0 ≡ maximum_in word }
-{
-    Mw250((word & 0x3FF) as u16)
-}
-
-// PPS and AVS share their bit places, but not the step of the voltage.
-pub(crate) fn pps_volts(word: u32) -> Mv20
-    ensures { result ≡ pps_volts word }
-{
-    Mv20(((word >> 9) & 0xFFF) as u16)
-}
-
-pub(crate) fn avs_volts(word: u32) -> Mv25
-    ensures { result ≡ avs_volts word }
-{
-    Mv25(((word >> 9) & 0xFFF) as u16)
+    ((word >> 9) & 0xFFF) as u16
 }
 
 pub(crate) fn current(word: u32) -> Ma50
@@ -69,23 +51,23 @@ fn requested(o: Object, word: u32) -> Request
 {
     match o {
         Object::Fixed { .. } => Request::Fixed {
-            operating: operating_current(word),
-            maximum: maximum_current(word),
+            operating: Ma10(operating(word)),
+            maximum: Ma10(maximum(word)),
         },
         Object::Battery { .. } => Request::Battery {
-            operating: operating_power(word),
-            maximum: maximum_power(word),
+            operating: Mw250(operating(word)),
+            maximum: Mw250(maximum(word)),
         },
         Object::Variable { .. } => Request::Variable {
-            operating: operating_current(word),
-            maximum: maximum_current(word),
+            operating: Ma10(operating(word)),
+            maximum: Ma10(maximum(word)),
         },
         Object::Pps { .. } => Request::Pps {
-            volts: pps_volts(word),
+            volts: Mv20(volts(word)),
             current: current(word),
         },
         Object::Avs { .. } => Request::Avs {
-            volts: avs_volts(word),
+            volts: Mv25(volts(word)),
             current: current(word),
         },
     }
@@ -95,12 +77,9 @@ fn requested(o: Object, word: u32) -> Request
 pub fn take_apart(o: Object, word: u32) -> Asked
     ensures { TakesApart o word result }
 {
-    let position = position(word);
-    let mismatch = mismatch(word);
-    let request = requested(o, word);
     Asked {
-        position,
-        mismatch,
-        request,
+        position: position(word),
+        mismatch: mismatch(word),
+        request: requested(o, word),
     }
 }

@@ -111,6 +111,10 @@ module _ (p : Profile) (volts a : ℕ) where
       sym (le-leb a (up_at p volts) (omega (arith, min-le_left 300 p.cable.0)))
       ∙ by_quotient (omega arith) (omega (arith, min-le_right 300 p.cable.0))
 
+-- the lower end needs no quotient
+pub low_allowed : (p : Profile) (volts a : ℕ) → 0 < volts → 6 * volts < p.present.0 → a ≡ min 300 p.cable.0 → true ≡ allowed_above_3_A p volts a
+low_allowed p volts a pos h e = just_low p volts a e (up_from_3_A p volts pos h)
+
 -- programmable supplies
 module _ (p : Profile) (volts a : ℕ) where
   pub built_figure : a ≡ prog_current p volts → prog_allowed p volts a ≡ true

@@ -6,13 +6,14 @@ use mathlib.Core.List.{List}
 use Prim.Native.Nat.{ℕ, ◌+◌, ◌≤◌, ◌<◌}
 use native.Mathlib.Omega.{arith}
 use lib.Dec.{ltb, eqb}
-use lib.ListN.{get_or, length, set, replicate}
+use lib.ListN.{get_or, length, set}
 use borrow.Author.Tests.{ltb-true, ltb-false}
 use Rattle.steps.specs.declared.Ma10.{Ma10}
 use Rattle.objects.specs.declared.Object.TheVariants as object
 use Rattle.objects.specs.Encode.{encode_of}
 use Rattle.lists.specs.Seven.{seven_to}
-use Rattle.lists.specs.Writing.{word_in}
+use Rattle.lists.specs.declared.Words.{Words}
+use Rattle.lists.specs.Writing.{word_in, no_words}
 use Rattle.lists.proofs.Sevens.{none_filled, one_filled}
 use Rattle.rules.specs.declared.Profile.{Profile}
 use Rattle.rules.specs.Tables.{Slot, Nothing, Fixed, Avs, Prog, row, rails, holds, base_slots, slots}
@@ -21,8 +22,11 @@ use Rattle.rules.specs.Building.{object_for, slot_word, word_for, PutIf, PutDown
 use Rattle.rules.proofs.EachMaximum.{at_most_seven}
 use Rattle.rules.proofs.TableWalk.{Stands, rails_to, rail_stands, rail_on, rail_skipped, after_rails, avs_stands, avs_on, avs_skipped, supply, supplies, supplies_to, supply_stands, supply_on, supply_skipped}
 
-pub none_put : (p : Profile) (ws : List ℕ) → ws ≡ replicate 7 0 → PutDown p 0 ws 0
-none_put p ws e = record { place = refl; words = e ∙ none_filled (word_for p) 0 }
+pub none_put : (p : Profile) {l : Words} → l ≡ no_words → PutDown p 0 l.words l.count
+none_put p e = record {
+  place = ap (λ (l : Words). l.count) e;
+  words = ap (λ (l : Words). l.words) e ∙ none_filled (word_for p) 0;
+}
 
 -- the word of the slot at the next place
 module _ (p : Profile) (n : ℕ) (ws : List ℕ) (next word : ℕ) (s : Slot) (down : PutDown p n ws next) where

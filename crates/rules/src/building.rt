@@ -1,7 +1,8 @@
 // The list that is built for a profile.
-ghost use Rattle.std.specs.Prelude.{◌≡◌, MatchResult, Ok, Err, true, ◌+◌, ◌<◌, eqb, length, set, replicate};
+ghost use Rattle.std.specs.Prelude.{◌≡◌, MatchResult, Ok, Err, true, ◌+◌, ◌<◌, eqb, length, set};
 ghost use Rattle.verdicts.specs.Refusals.{NoneApply, err, first_of, passed_by};
 ghost use Rattle.objects.specs.Bits.{bits};
+ghost use Rattle.lists.specs.Writing.{no_words};
 ghost use Rattle.rules.specs.Profiles.{build_refusals, pps_below_maximum};
 ghost use Rattle.rules.specs.Tables.{rails, fixed_slots, base_slots};
 ghost use Rattle.rules.specs.Building.{slot_word, built_count, built_words, PutIf, PutDown};
@@ -11,40 +12,38 @@ use crate::Profile;
 use crate::port::Port;
 use crate::rows::{Row, avs_with};
 use crate::tables::{AvsRow, RAILS, ROW_15_V, ROW_20_V, SUPPLIES};
-use lists::{Listing, Words};
+use lists::{Listing, NO_WORDS, Words};
 use steps::Ma10;
 use verdicts::Verdict;
 
-// A word goes to a place of the list; the next place is the answer.
-fn put(words: &mut [u32; 7], at: usize, word: u32) -> usize
-    requires { at < 7 }
-    ensures { (words.new ≡ set words.old at word) × (result ≡ at + 1) }
+// A word goes to the end of a list that has room.
+fn push(list: &mut Words, word: u32)
+    requires { list.old.count < 7 }
+    ensures { (list.new.words ≡ set list.old.words list.old.count word) × (list.new.count ≡ list.old.count + 1) }
 {
-    words[at] = word;
-    at + 1
+    list.words[list.count as usize] = word;
+    list.count += 1;
 }
 
 // The word of a row, where the port has its object.
-fn put_row<R: Row>(words: &mut [u32; 7], at: usize, port: Port, row: R) -> usize
-    requires { R.real row × (R.there port.profile.max.0 row ≡ true → at < 7) }
-    ensures { PutIf (R.there port.profile.max.0 row) (slot_word port.profile (eqb at 0) (R.slot port.profile.max.0 row)) words.old at words.new result }
+fn put_row<R: Row>(list: &mut Words, port: Port, row: R)
+    requires { R.real row × (R.there port.profile.max.0 row ≡ true → list.old.count < 7) }
+    ensures { PutIf (R.there port.profile.max.0 row) (slot_word port.profile (eqb list.old.count 0) (R.slot port.profile.max.0 row)) list.old.words list.old.count list.new.words list.new.count }
 {
     if row.is_there(port.profile.max) {
-        let word = row.word(port, at == 0);
-        return put(words, at, word);
+        let word = row.word(port, list.count == 0);
+        push(list, word);
     }
-    at
 }
 
-fn put_rails(words: &mut [u32; 7], port: Port) -> usize
-    requires { words.old ≡ replicate 7 0 }
-    ensures { PutDown port.profile (length (fixed_slots port.profile.max.0 rails)) words.new result }
+// One loop for each table: a common one over a slice of rows would be no plainer, since it would have to be told what stands before them.
+fn put_rails(list: &mut Words, port: Port)
+    requires { list.old ≡ no_words }
+    ensures { PutDown port.profile (length (fixed_slots port.profile.max.0 rails)) list.new.words list.new.count }
 {
-    let mut at = 0;
     for row in RAILS {
-        at = put_row(words, at, port, row);
+        put_row(list, port, row);
     }
-    at
 }
 
 // The current of a fixed word stands in its bits 9..0.
@@ -57,32 +56,28 @@ fn current_in(word: u32) -> Ma10
 // "The first AVS current is that of the 15 V object. The second is that of the 20 V object, or zero where there is none." They are taken
 // from the words put down before, since each costs a division to work out again. The rows rise, so a row that M exceeds has its word at
 // its own place; at the place of any other there is still 0.
-fn put_avs(words: &mut [u32; 7], at: usize, port: Port) -> usize
-    requires { PutDown port.profile (length (fixed_slots port.profile.max.0 rails)) words.old at }
-    ensures { PutDown port.profile (length (base_slots port.profile.max.0)) words.new result }
+fn put_avs(list: &mut Words, port: Port)
+    requires { PutDown port.profile (length (fixed_slots port.profile.max.0 rails)) list.old.words list.old.count }
+    ensures { PutDown port.profile (length (base_slots port.profile.max.0)) list.new.words list.new.count }
 {
     if AvsRow.is_there(port.profile.max) {
-        let low = current_in(words[ROW_15_V]);
-        let high = current_in(words[ROW_20_V]);
+        let low = current_in(list.words[ROW_15_V]);
+        let high = current_in(list.words[ROW_20_V]);
         let word = avs_with(low, high);
-        return put(words, at, word);
+        push(list, word);
     }
-    at
 }
 
 // Programmable supplies stand in a list only where they are wanted.
-fn put_supplies(words: &mut [u32; 7], from: usize, port: Port) -> usize
-    requires { PutDown port.profile (length (base_slots port.profile.max.0)) words.old from }
-    ensures { PutDown port.profile (built_count port.profile) words.new result }
+fn put_supplies(list: &mut Words, port: Port)
+    requires { PutDown port.profile (length (base_slots port.profile.max.0)) list.old.words list.old.count }
+    ensures { PutDown port.profile (built_count port.profile) list.new.words list.new.count }
 {
-    if port.profile.pps != 1 {
-        return from;
+    if port.profile.pps == 1 {
+        for row in SUPPLIES {
+            put_row(list, port, row);
+        }
     }
-    let mut at = from;
-    for row in SUPPLIES {
-        at = put_row(words, at, port, row);
-    }
-    at
 }
 
 // Whether PPS is wanted of a port that has less than its maximum (6).
@@ -109,14 +104,11 @@ fn built(p: Profile) -> Result<Words, Verdict>
     ensures { result ≡ first_of err (build_refusals p) (Ok (built_words p)) }
 {
     let port = port_with_list(p)?;
-    let mut words = [0u32; 7];
-    let rails = put_rails(&mut words, port);
-    let base = put_avs(&mut words, rails, port);
-    let count = put_supplies(&mut words, base, port);
-    Ok(Words {
-        words,
-        count: count as u8,
-    })
+    let mut list = NO_WORDS;
+    put_rails(&mut list, port);
+    put_avs(&mut list, port);
+    put_supplies(&mut list, port);
+    Ok(list)
 }
 
 // The list that a port with this profile advertises. Refusals: 1, 2, 3, 4, 5, 6.

@@ -85,6 +85,7 @@ impl Candidate {
         Some(walk)
     }
 
+    // One loop for each table, as in the builder.
     fn follow_rails(&self) -> Option<Walk>
         ensures { result ≡ followed self.now.port.profile self.now.list (length (fixed_slots self.now.port.profile.max.0 rails)) }
     {

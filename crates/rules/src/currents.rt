@@ -1,5 +1,6 @@
 // Currents: what is built, and what the rule check allows. Rounding is the one law of `steps`.
-ghost use Rattle.std.specs.Prelude.{◌≡◌, ◌&&◌, ◌*◌, ◌<◌, ltb};
+ghost use Rattle.std.specs.Prelude.{◌≡◌, cond, ◌&&◌, ◌*◌, ◌<◌, eqb, ltb};
+ghost use Rattle.std.specs.Ordering.{ord_min};
 ghost use Rattle.rules.specs.Currents.{down_at, up_at, limit_at, built_current, fixed_allowed, above_3_A, allowed_above_3_A, either_rounding, cable_in_whole_50_mA, prog_down, prog_limit, prog_current, may_exceed, prog_allowed};
 
 use crate::port::Port;
@@ -10,28 +11,41 @@ const THREE_A: Ma10 = Ma10(300);
 
 const THREE_A_50: Ma50 = Ma50(60);
 
-// A quotient in 10 mA, rounded both ways.
+// A quotient in 10 mA, rounded both ways: `steps::Roundings` counts in no step.
 #[derive(Clone, Copy)]
 struct RoundedCurrents {
     down: Ma10,
     up: Ma10,
 }
 
+// What a current is cut to, in any step: the cable at 20 V, and elsewhere the smaller of 3 A and the cable.
+fn limit<T: Ord + Copy>(volts: u16, three_a: T, cable: T) -> T
+    ensures { result ≡ cond (eqb volts 20) cable (ord_min T.cmp three_a cable) }
+{
+    if volts == 20 {
+        return cable;
+    }
+    three_a.min(cable)
+}
+
 // ---- fixed objects
 
 impl Port {
+    #[tactic(auto, using(steps::proofs::RoundingLaws::down_within))]
     fn down_at(self, volts: u16) -> Ma10
         ensures { result.0 ≡ down_at self.profile volts }
     {
         Ma10(steps::round_down(50 * (self.profile.present.0 as u32), volts as u32) as u16)
     }
 
+    #[tactic(auto, using(steps::proofs::RoundingLaws::up_within))]
     fn up_at(self, volts: u16) -> Ma10
         ensures { result.0 ≡ up_at self.profile volts }
     {
         Ma10(steps::round_up(50 * (self.profile.present.0 as u32), volts as u32) as u16)
     }
 
+    #[tactic(auto, using(steps::proofs::RoundingLaws::down_within, steps::proofs::RoundingLaws::up_within))]
     fn both_at(self, volts: u16) -> RoundedCurrents
         ensures { (result.down.0 ≡ down_at self.profile volts) × (result.up.0 ≡ up_at self.profile volts) }
     {
@@ -46,10 +60,7 @@ impl Port {
     fn limit_at(self, volts: u16) -> Ma10
         ensures { result.0 ≡ limit_at self.profile volts }
     {
-        if volts == 20 {
-            return self.profile.cable;
-        }
-        THREE_A.min(self.profile.cable)
+        limit(volts, THREE_A, self.profile.cable)
     }
 
     // The current of a fixed object that is built.
@@ -76,6 +87,7 @@ impl Port {
 
     // There "from the smaller of 3 A and the cable up to the smaller of the cable and the quotient rounded up". What 3 A and the cable decide
     // needs no division; most lists have the lower end here.
+    #[tactic(auto, using(std::proofs::lemmas::Grind::common_steps, crate::proofs::Allowed::low_allowed))]
     fn allowed_above_3_a(self, volts: u16, current: Ma10) -> bool
         requires { (0 < volts) × (6 * volts < self.profile.present.0) }
         ensures { result ≡ allowed_above_3_A self.profile volts current.0 }
@@ -105,6 +117,7 @@ impl Port {
     }
 
     // Whether a fixed object may have this current. 20 V is one case with the others where P is not above 3 A.
+    #[tactic(auto, using(crate::proofs::Allowed::above_3_A_lem, crate::proofs::Allowed::not_above_3_A))]
     pub(crate) fn fixed_allowed(self, volts: u16, current: Ma10) -> bool
         requires { 0 < volts }
         ensures { result ≡ fixed_allowed self.profile volts current.0 }
@@ -119,6 +132,7 @@ impl Port {
 // ---- programmable supplies
 
 impl Port {
+    #[tactic(auto, using(steps::proofs::RoundingLaws::down_within))]
     fn prog_down(self, volts: u16) -> Ma50
         ensures { result.0 ≡ prog_down self.profile volts }
     {
@@ -136,11 +150,7 @@ impl Port {
     fn prog_limit(self, volts: u16) -> Ma50
         ensures { result.0 ≡ prog_limit self.profile volts }
     {
-        let cable = self.cable_in_whole_50_ma();
-        if volts == 20 {
-            return cable;
-        }
-        THREE_A_50.min(cable)
+        limit(volts, THREE_A_50, self.cable_in_whole_50_ma())
     }
 
     // The current of a programmable supply that is built.
@@ -152,6 +162,7 @@ impl Port {
     }
 
     // Whether a programmable supply may have this current.
+    #[tactic(auto, using(std::proofs::lemmas::Grind::common_steps, crate::proofs::Allowed::built_figure, crate::proofs::Allowed::not_above, crate::proofs::Allowed::below_built, crate::proofs::Allowed::by_cable), unfolding(crate::specs::Currents::prog_current))]
     pub(crate) fn prog_allowed(self, volts: u16, current: Ma50) -> bool
         ensures { result ≡ prog_allowed self.profile volts current.0 }
     {

@@ -19,7 +19,8 @@ pub use profiles::{bad_cable, default_profile};
 use steps::{HalfWatts, Ma10};
 use verdicts::Verdict;
 
-// A port: what a list is built for and checked against.
+// A port: what a list is built for and checked against. Rounding and PPS wanted are numbers and no enums: C sets them, and any other
+// number is refused (4).
 #[repr(C)]
 #[derive(Clone, Copy)]
 pub struct Profile {
@@ -38,6 +39,7 @@ pub struct Profile {
 }
 
 // A profile with its verdict: on a refusal the profile is all zero.
+// No `Result`: C hands this struct on, and `Defaults` says what stands beside a refusal.
 #[repr(C)]
 #[derive(Clone, Copy)]
 pub struct Profiled {

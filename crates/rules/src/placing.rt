@@ -18,6 +18,7 @@ fn past_rails(max: HalfWatts) -> usize
     RAILS.iter().filter(|row| row.is_there(max)).count()
 }
 
+#[tactic(auto, using(crate::proofs::TableWalk::avs_on, crate::proofs::TableWalk::avs_skipped))]
 fn past_avs(max: HalfWatts, at: usize) -> usize
     requires { (max.0 ≤ 200) × (at ≡ length (fixed_slots max.0 rails)) }
     ensures { result ≡ length (base_slots max.0) }
@@ -68,9 +69,11 @@ fn standing_at(port: Port, asked: usize) -> Option<u32>
 pub fn word_at(p: Profile, place: u8) -> Option<u32>
     ensures { PlacesWord p place result }
 {
-    let port = port_with_list(p).ok()?;
     if place < 1 {
         return None;
     }
-    standing_at(port, (place - 1) as usize)
+    match port_with_list(p) {
+        Ok(port) => standing_at(port, (place - 1) as usize),
+        Err(_) => None,
+    }
 }

@@ -38,6 +38,7 @@ fn no_profile(number: u8) -> Profiled
 }
 
 // The default profile of a port maximum: present power is the maximum, a 3 A cable, rounded down, no PPS, no flags. Refusals: 1.
+#[tactic(auto, unfolding(crate::specs::Profiles::default_of, verdicts::specs::Refusals::first_of))]
 pub fn default_profile(max: HalfWatts) -> Profiled
     ensures { Defaults max result }
 {

@@ -133,7 +133,7 @@ impl Row for AvsRow {
         AVS_ABOVE < max
     }
 
-    fn word(self, port: Port, first: bool) -> u32 {
+    fn word(self, port: Port, _first: bool) -> u32 {
         let low = port.built_current(15);
         let high = second_current(port);
         avs_with(low, high)
@@ -165,7 +165,7 @@ impl Row for Supply {
         between(self.above, max, self.below)
     }
 
-    fn word(self, port: Port, first: bool) -> u32 {
+    fn word(self, port: Port, _first: bool) -> u32 {
         let current = port.prog_current(self.volts);
         let e = objects::pps_word(1, self.top, BOTTOM, current);
         word_in(e)

@@ -2,7 +2,8 @@
 // power left keeps its voltages. The builder and the rule check walk the same rows, in this order.
 use steps::{HalfWatts, Mv100};
 
-// One row of the fixed part: a voltage in volts, and the port maximum that it must exceed.
+// One row of the fixed part: a voltage in volts, and the port maximum that it must exceed. Volts are a count and no enum of four: currents
+// are powers divided by them.
 #[derive(Clone, Copy)]
 pub struct Rail {
     pub volts: u16,

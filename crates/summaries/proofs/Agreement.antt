@@ -1,6 +1,6 @@
 -- The answer from the summary of a list is the answer from the list.
 -- Assumes nothing.
-use Rattle.std.specs.Prelude.{Some}
+use Rattle.std.specs.Prelude.{Some, Result, Ok, Err}
 use mathlib.Core.Path.{◌≡◌, refl, sym, ap, ◌∙◌, subst}
 use mathlib.Core.Bool.{Bool, true, false}
 use mathlib.Core.List.{List, []}
@@ -38,6 +38,12 @@ use Rattle.summaries.specs.Answering.{judged_by, row_of, answered_by}
 use Rattle.summaries.proofs.Answers.{misplaced, by_row}
 use Rattle.summaries.proofs.Takings as takings
 
+ok_not_err : {t : TakenRequest} {u : Verdict} → Ok t ≡ Err u → ⊥
+ok_not_err {t} {u} q = cc
+
+ok_same : {t s : TakenRequest} → ◌≡◌ {A = Result TakenRequest Verdict} (Ok t) (Ok s) → t ≡ s
+ok_same {t} {s} q = cc
+
 -- ---- by the limits of an object
 
 -- where the two currents of a row are the same, the voltage does not matter
@@ -54,7 +60,6 @@ level mv ma = go (ltb mv 15000) refl (ltb 15000 mv) refl where
 
 -- what a decoded request is, by the answer of decoding
 abbrev Judges : Object → ℕ → TakenRequest → Type 0
-Judges o w (taken.Refused v) = Unit
 Judges o w (taken.Battery p m) = Unit
 Judges o w (taken.Quick a) = judged_by (limits_of o) a.mismatch a.request ≡ judged_of o w
 
@@ -85,7 +90,6 @@ decoded_as o w a e = ap quick_of (sym e) ∙ quick_again a.position a.mismatch a
 
 -- .. and the other way round; of a battery object there is none
 abbrev Tells : Asked → TakenRequest → Type 0
-Tells x (taken.Refused v) = ⊥
 Tells x (taken.Battery p m) = Unit
 Tells x (taken.Quick a) = asked_as a ≡ x
 
@@ -99,9 +103,6 @@ tells_kind (Avs p l h) w = refl
 
 pub taken_as_lem : (o : Object) (w : ℕ) (a : QuickAsked) → quick_of (taken_apart o w) ≡ taken.Quick a → asked_as a ≡ taken_apart o w
 taken_as_lem o w a e = subst (Tells (taken_apart o w)) e (tells_kind o w)
-
-not_refused : (o : Object) (w : ℕ) (u : Verdict) → quick_of (taken_apart o w) ≡ taken.Refused u → ⊥
-not_refused o w u e = subst (Tells (taken_apart o w)) e (tells_kind o w)
 
 -- ---- on a list
 
@@ -142,24 +143,24 @@ module _ (l : Words) (shaped : (shape_of l).number ≡ 0) where
         ∙ sym (judged l w shaped o e named)
 
     -- of what decoding gives
-    pub alike : (a : QuickAsked) → taken_of l w ≡ taken.Quick a → answered_by (summary_of l) a ≡ answer_of l w
+    pub alike : (a : QuickAsked) → taken_of l w ≡ Ok (taken.Quick a) → answered_by (summary_of l) a ≡ answer_of l w
     alike a is = go (bad_position l.count (position_of w)) refl where
       go : (b : Bool) → bad_position l.count (position_of w) ≡ b → answered_by (summary_of l) a ≡ answer_of l w
-      go true e = let z : taken.Refused (verdict 20 0) ≡ taken.Quick a = sym (takings.misplaced l w counted e) ∙ is in cc
+      go true e = absurd (ok_not_err (sym is ∙ takings.misplaced l w counted e))
       go false e =
           let o = object_of (named_by l w) in
           let named = names_object l w shaped (position_from_1 l.count (position_of w) e) (position_to_count l.count (position_of w) e) in
-          placed_alike o e named a (taken_as_lem o w a (sym (takings.of_object_lem l w counted e o named) ∙ is))
+          placed_alike o e named a (taken_as_lem o w a (ok_same (sym (takings.of_object_lem l w counted e o named) ∙ is)))
 
     -- a list that has its shape has an object in every word: decoding refuses nothing but the position
-    pub refused_20 : (u : Verdict) → taken_of l w ≡ taken.Refused u → u ≡ verdict 20 0
+    pub refused_20 : (u : Verdict) → taken_of l w ≡ Err u → u ≡ verdict 20 0
     refused_20 u is = go (bad_position l.count (position_of w)) refl where
       go : (b : Bool) → bad_position l.count (position_of w) ≡ b → u ≡ verdict 20 0
       go true e = ap taken_verdict (sym is ∙ takings.misplaced l w counted e)
       go false e =
           let o = object_of (named_by l w) in
           let named = names_object l w shaped (position_from_1 l.count (position_of w) e) (position_to_count l.count (position_of w) e) in
-          absurd (not_refused o w u (sym (takings.of_object_lem l w counted e o named) ∙ is))
+          absurd (ok_not_err (sym (takings.of_object_lem l w counted e o named) ∙ is))
 
     -- "Where the position of a request word is outside the count, the answer from the list is 20, decoding gives 20"
     module _ (outside : bad_position l.count (position_of w) ≡ true) where

@@ -1,6 +1,6 @@
 -- What the calls over summaries do not look at: places past the count, and in decoding and answering all but what the position names.
 -- Assumes nothing.
-use Rattle.std.specs.Prelude.{Option}
+use Rattle.std.specs.Prelude.{Option, Result, Ok}
 use Rattle.objects.specs.declared.Object.{Object}
 use mathlib.Core.Path.{◌≡◌, refl, sym, ap, ap₂, ◌∙◌, subst}
 use mathlib.Core.Bool.{Bool, true, false}
@@ -9,6 +9,7 @@ use Prim.Native.Nat.{ℕ, ◌-◌, ◌<◌, ◌≤◌}
 use lib.Dec.{ltb, eqb}
 use lib.ListN.{get_or}
 use borrow.Author.Tests.{ltb-true, ltb-false}
+use Rattle.verdicts.specs.declared.Verdict.{Verdict}
 use Rattle.verdicts.specs.Refusals.{refusal, first_of, success, verdict_of}
 use Rattle.objects.specs.declared.Side.TheVariants.{Source}
 use Rattle.objects.specs.Decode.{decode_of, decoded_number}
@@ -36,14 +37,14 @@ summary_unread l m a =
     ∙ recounted summarized_of l m a
 
 -- decoding, by the count and what the named word stands for
-abbrev taken_by : ℕ → ℕ → Option Object → TakenRequest
+abbrev taken_by : ℕ → ℕ → Option Object → Result TakenRequest Verdict
 taken_by w n d =
     first_of taken_refused
     (refusal (bad_count n) 10 0
     ∷ refusal (bad_position n (position_of w)) 20 0
     ∷ refusal (eqb (decoded_number d) 12) 12 (position_of w)
     ∷ [])
-    (quick_of (taken_apart (object_of d) w))
+    (Ok (quick_of (taken_apart (object_of d) w)))
 
 taken_by_one : (l m : Words) (w : ℕ) → l.count ≡ m.count
     → get_or l.words (position_of w - 1) 0 ≡ get_or m.words (position_of w - 1) 0 → taken_of l w ≡ taken_of m w

@@ -12,7 +12,8 @@ use Rattle.summaries.specs.declared.Summary.{Summary}
 use Rattle.summaries.specs.declared.QuickRequest.{QuickRequest}
 use Rattle.summaries.specs.declared.QuickRequest.TheVariants.{Fixed, Variable, Pps, Avs}
 use Rattle.summaries.specs.declared.QuickAsked.{QuickAsked}
-use Rattle.summaries.specs.Summaries.{lowest_in, highest_in, below_in, above_in}
+use Rattle.summaries.specs.declared.answering.Limits.{Limits}
+use Rattle.summaries.specs.Summaries.{row, lowest_in, highest_in, below_in, above_in}
 
 -- ---- what is asked for
 
@@ -81,6 +82,19 @@ summary_refusals s a =
 
 unfoldable pub answered_by : Summary → QuickAsked → Verdict
 answered_by s a = verdict_of (summary_refusals s a)
+
+-- ---- a row as the code has it: its four limits by name
+
+abbrev pub limits_in_row : List ℕ → Limits
+limits_in_row ls = record {
+  lowest = record { 0 = lowest_in ls };
+  highest = record { 0 = highest_in ls };
+  below_15_v = record { 0 = below_in ls };
+  above_15_v = record { 0 = above_in ls };
+}
+
+abbrev pub row_with : Limits → List ℕ
+row_with l = row l.lowest.0 l.highest.0 l.below_15_v.0 l.above_15_v.0
 
 -- ---- a part of `judged_by`, named for the function that works it out: a voltage in mV and a current in mA, "22, 24"
 

@@ -1,7 +1,7 @@
 -- What each public call of this crate promises of its answer (STATEMENT, "Summaries"). The contracts cite these names, and so do the
 -- theorems over them.
 -- Assumes nothing.
-use Rattle.std.specs.Prelude.{◌≡◌, List, ℕ}
+use Rattle.std.specs.Prelude.{◌≡◌, List, ℕ, Result}
 use Rattle.verdicts.specs.declared.Verdict.{Verdict}
 use Rattle.lists.specs.declared.Words.{Words}
 use Rattle.summaries.specs.declared.Summary.{Summary}
@@ -15,7 +15,7 @@ use Rattle.summaries.specs.Answering.{answered_by}
 abbrev pub Summarizes : Words → Summarized → Type 0
 Summarizes l r = r ≡ summarized_of l
 
-abbrev pub TakesRequest : Words → ℕ → TakenRequest → Type 0
+abbrev pub TakesRequest : Words → ℕ → Result TakenRequest Verdict → Type 0
 TakesRequest l w r = r ≡ taken_of l w
 
 abbrev pub AnswersSummary : Summary → QuickAsked → Verdict → Type 0

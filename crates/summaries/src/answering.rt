@@ -1,124 +1,156 @@
 // The answer to a decoded request from a summary alone. Limits have 16 bits and a request's figures in mV and mA do not: an AVS voltage
 // of 4095 steps is 102,375 mV. So they are compared in 32 bits.
-ghost use Rattle.std.specs.Prelude.{◌≡◌, false};
-ghost use Rattle.verdicts.specs.Refusals.{verdict, verdict_of};
-ghost use Rattle.steps.specs.Units.{mv20, ma50};
+ghost use Rattle.std.specs.Prelude.{◌≡◌};
+ghost use Rattle.verdicts.specs.Refusals.{passed_by};
+ghost use Rattle.steps.specs.Units.{mv20, mv25, ma10, ma50};
 ghost use Rattle.requests.specs.Limits.{avs_limit};
-ghost use Rattle.summaries.specs.declared.QuickRequest.TheVariants.{Fixed, Avs};
-ghost use Rattle.summaries.specs.Summaries.{below_in, above_in};
-ghost use Rattle.summaries.specs.Answering.{judged_by, range_by};
+ghost use Rattle.summaries.specs.declared.QuickRequest.TheVariants.{Fixed};
+ghost use Rattle.summaries.specs.Answering.{limits_in_row, row_with, row_refusals, range_refusals, summary_refusals};
 ghost use Rattle.summaries.specs.Promises.{AnswersSummary};
 
 use crate::holding::row_at;
 use crate::{ABOVE_15_V, BELOW_15_V, HIGHEST, LOWEST, QuickAsked, QuickRequest, Summary};
+use std::cmp::Ordering;
 use steps::{Ma10, Ma50, Mv20, Mv25};
 use verdicts::Verdict;
 
-// A voltage in mV that a request asks for.
-#[derive(Clone, Copy)]
+// A voltage in mV.
+#[derive(Clone, Copy, PartialEq, Eq, PartialOrd, Ord)]
 struct Mv(u32);
 
-// A current in mA that a request asks for.
-#[derive(Clone, Copy)]
+// A current in mA.
+#[derive(Clone, Copy, PartialEq, Eq, PartialOrd, Ord)]
 struct Ma(u32);
 
-// No answer to a request has a place of its own.
-fn placeless(number: u8) -> Verdict
-    ensures { result ≡ verdict number 0 }
-{
-    Verdict { number, place: 0 }
+impl From<Mv20> for Mv {
+    ghost from_gives = { λ volts mv. mv.0 ≡ mv20 volts };
+
+    fn from(volts: Mv20) -> Mv {
+        Mv(u32::from(volts.0) * 20)
+    }
 }
 
-// Fixed and variable requests: two currents and no voltage. There is no 25 where the sink says that it needs more than is offered.
-fn judge_figures(limits: [u16; 4], operating: Ma10, maximum: Ma10, mismatch: bool) -> Verdict
-    ensures { result ≡ judged_by limits mismatch (Fixed operating maximum) }
-{
-    let limit = limits[BELOW_15_V] as u32;
-    if limit < (operating.0 as u32) * 10 {
-        return placeless(verdicts::OPERATING_TOO_LARGE);
+impl From<Mv25> for Mv {
+    ghost from_gives = { λ volts mv. mv.0 ≡ mv25 volts };
+
+    fn from(volts: Mv25) -> Mv {
+        Mv(u32::from(volts.0) * 25)
     }
-    if mismatch {
-        return placeless(verdicts::SUCCESS);
-    }
-    if limit < (maximum.0 as u32) * 10 {
-        return placeless(verdicts::MAXIMUM_TOO_LARGE);
-    }
-    placeless(verdicts::SUCCESS)
 }
 
-// At exactly 15.0 V the larger of the two currents limits.
-fn limit_at(limits: [u16; 4], volts: Mv) -> Ma
-    ensures { result.0 ≡ avs_limit volts.0 (below_in limits) (above_in limits) }
-{
-    let below = limits[BELOW_15_V] as u32;
-    let above = limits[ABOVE_15_V] as u32;
-    if volts.0 < 15000 {
-        return Ma(below);
+impl From<Ma10> for Ma {
+    ghost from_gives = { λ current ma. ma.0 ≡ ma10 current };
+
+    fn from(current: Ma10) -> Ma {
+        Ma(u32::from(current.0) * 10)
     }
-    if 15000 < volts.0 {
-        return Ma(above);
-    }
-    if below < above {
-        return Ma(above);
-    }
-    Ma(below)
 }
 
-// PPS and AVS requests: a voltage in the range of the row, and a current.
-fn judge_range(limits: [u16; 4], volts: Mv, current: Ma) -> Verdict
-    ensures { result ≡ range_by limits volts.0 current.0 }
-{
-    if volts.0 < (limits[LOWEST] as u32) {
-        return placeless(verdicts::VOLTAGE_OUTSIDE);
+impl From<Ma50> for Ma {
+    ghost from_gives = { λ current ma. ma.0 ≡ ma50 current };
+
+    fn from(current: Ma50) -> Ma {
+        Ma(u32::from(current.0) * 50)
     }
-    if (limits[HIGHEST] as u32) < volts.0 {
-        return placeless(verdicts::VOLTAGE_OUTSIDE);
-    }
-    let limit = limit_at(limits, volts);
-    if limit.0 < current.0 {
-        return placeless(verdicts::OPERATING_TOO_LARGE);
-    }
-    placeless(verdicts::SUCCESS)
 }
 
-fn judge_pps(limits: [u16; 4], volts: Mv20, current: Ma50) -> Verdict
-    ensures { result ≡ range_by limits (mv20 volts) (ma50 current) }
-{
-    judge_range(
-        limits,
-        Mv((volts.0 as u32) * 20),
-        Ma((current.0 as u32) * 50),
-    )
+// The limits of a row.
+#[derive(Clone, Copy)]
+struct Limits {
+    lowest: Mv,
+    highest: Mv,
+    below_15_v: Ma,
+    above_15_v: Ma,
 }
 
-// 100 mV is four steps of 25 mV.
-fn judge_avs(limits: [u16; 4], volts: Mv25, current: Ma50) -> Verdict
-    ensures { result ≡ judged_by limits false (Avs volts current) }
-{
-    if volts.0 % 4 != 0 {
-        return placeless(verdicts::AVS_VOLTAGE_NOT_WHOLE);
+impl From<[u16; 4]> for Limits {
+    ghost from_gives = { λ row limits. limits ≡ limits_in_row row };
+
+    fn from(row: [u16; 4]) -> Limits {
+        Limits {
+            lowest: Mv(u32::from(row[LOWEST])),
+            highest: Mv(u32::from(row[HIGHEST])),
+            below_15_v: Ma(u32::from(row[BELOW_15_V])),
+            above_15_v: Ma(u32::from(row[ABOVE_15_V])),
+        }
     }
-    judge_range(
-        limits,
-        Mv((volts.0 as u32) * 25),
-        Ma((current.0 as u32) * 50),
-    )
 }
 
-// Whether a request keeps to the limits of a row.
-fn judge_row(limits: [u16; 4], mismatch: bool, request: QuickRequest) -> Verdict
-    ensures { result ≡ judged_by limits mismatch request }
-{
-    match request {
-        QuickRequest::Fixed { operating, maximum } => judge_figures(
-            limits, operating, maximum, mismatch,
-        ),
-        QuickRequest::Variable { operating, maximum } => judge_figures(
-            limits, operating, maximum, mismatch,
-        ),
-        QuickRequest::Pps { volts, current } => judge_pps(limits, volts, current),
-        QuickRequest::Avs { volts, current } => judge_avs(limits, volts, current),
+impl Limits {
+    // At exactly 15.0 V the larger of the two currents limits.
+    fn current_at(self, volts: Mv) -> Ma
+        ensures { result.0 ≡ avs_limit volts.0 self.below_15_v.0 self.above_15_v.0 }
+    {
+        match volts.cmp(&Mv(15000)) {
+            Ordering::Less => self.below_15_v,
+            Ordering::Equal => self.below_15_v.max(self.above_15_v),
+            Ordering::Greater => self.above_15_v,
+        }
     }
+
+    // Fixed and variable requests: two currents and no voltage. There is no 25 where the sink says that it needs more than is offered.
+    fn judge_figures(self, operating: Ma10, maximum: Ma10, mismatch: bool) -> Result<(), Verdict>
+        ensures { result ≡ passed_by (row_refusals (row_with self) mismatch (Fixed operating maximum)) }
+    {
+        let limit = self.below_15_v;
+        if limit < Ma::from(operating) {
+            return Err(Verdict::placeless(verdicts::OPERATING_TOO_LARGE));
+        }
+        if limit < Ma::from(maximum) && !mismatch {
+            return Err(Verdict::placeless(verdicts::MAXIMUM_TOO_LARGE));
+        }
+        Ok(())
+    }
+
+    // PPS and AVS requests: a voltage in the range of the row, and a current.
+    fn judge_range(self, volts: Mv, current: Ma) -> Result<(), Verdict>
+        ensures { result ≡ passed_by (range_refusals (row_with self) volts.0 current.0) }
+    {
+        if volts < self.lowest || self.highest < volts {
+            return Err(Verdict::placeless(verdicts::VOLTAGE_OUTSIDE));
+        }
+        if self.current_at(volts) < current {
+            return Err(Verdict::placeless(verdicts::OPERATING_TOO_LARGE));
+        }
+        Ok(())
+    }
+
+    // Whether a request keeps to the limits. 100 mV is four steps of 25 mV.
+    fn judge(self, mismatch: bool, request: QuickRequest) -> Result<(), Verdict>
+        ensures { result ≡ passed_by (row_refusals (row_with self) mismatch request) }
+    {
+        match request {
+            QuickRequest::Fixed { operating, maximum }
+            | QuickRequest::Variable { operating, maximum } => self.judge_figures(
+                operating, maximum, mismatch,
+            ),
+            QuickRequest::Pps { volts, current } => self.judge_range(
+                Mv::from(volts),
+                Ma::from(current),
+            ),
+            QuickRequest::Avs { volts, .. } if volts.0 % 4 != 0 => Err(Verdict::placeless(
+                verdicts::AVS_VOLTAGE_NOT_WHOLE,
+            )),
+            QuickRequest::Avs { volts, current } => self.judge_range(
+                Mv::from(volts),
+                Ma::from(current),
+            ),
+        }
+    }
+}
+
+fn answered(summary: Summary, asked: QuickAsked) -> Result<(), Verdict>
+    ensures { result ≡ passed_by (summary_refusals summary asked) }
+{
+    if 7 < summary.count {
+        return Err(Verdict::placeless(verdicts::COUNT));
+    }
+    let named = asked.position;
+    if named < 1 || summary.count < named {
+        return Err(Verdict::placeless(verdicts::POSITION));
+    }
+    let limits = Limits::from(row_at(summary, (named - 1) as usize));
+    limits.judge(asked.mismatch, asked.request)
 }
 
 // Whether a decoded request may be accepted, by the summary of the list that was advertised: the answer from that list, where the request
@@ -127,19 +159,5 @@ fn judge_row(limits: [u16; 4], mismatch: bool, request: QuickRequest) -> Verdict
 pub fn answer_summary(summary: Summary, asked: QuickAsked) -> Verdict
     ensures { AnswersSummary summary asked result }
 {
-    let count = summary.count;
-    if 7 < count {
-        return placeless(verdicts::COUNT);
-    }
-    let named = asked.position;
-    if named < 1 {
-        return placeless(verdicts::POSITION);
-    }
-    if count < named {
-        return placeless(verdicts::POSITION);
-    }
-    let at = (named - 1) as usize;
-    let limits = row_at(summary, at);
-    let request = asked.request;
-    judge_row(limits, asked.mismatch, request)
+    Verdict::from(answered(summary, asked))
 }

@@ -38,7 +38,7 @@ pub struct Summary {
     pub rows: [[u16; 4]; 7],
 }
 
-// A summary with its verdict: on a refusal it is all zero.
+// A summary with its verdict: on a refusal it is all zero. C hands this struct on, so it is no `Result`.
 #[repr(C)]
 #[derive(Clone, Copy)]
 pub struct Summarized {
@@ -81,6 +81,10 @@ pub enum QuickRequest {
     },
 }
 
+// A request to a battery object: it has no `QuickRequest`.
+#[derive(Clone, Copy)]
+pub struct BatteryRequest;
+
 // A decoded request: a request word taken apart for the kind of the object at its position.
 #[derive(Clone, Copy)]
 pub struct QuickAsked {
@@ -92,11 +96,9 @@ pub struct QuickAsked {
     pub request: QuickRequest,
 }
 
-// What decoding gives.
+// What decoding gives where nothing is refused.
 #[derive(Clone, Copy)]
 pub enum TakenRequest {
-    // The first refusal that applies.
-    Refused(Verdict),
     // A request to a battery object, which the list has to answer.
     Battery {
         // The place of the object that it names, from 1.

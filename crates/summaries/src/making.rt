@@ -3,9 +3,8 @@ ghost use Rattle.std.specs.Prelude.{◌≡◌, ◌≤◌};
 ghost use Rattle.summaries.specs.Summaries.{rows_to};
 ghost use Rattle.summaries.specs.Promises.{Summarizes};
 
-use crate::Summarized;
-use crate::holding::hold;
 use crate::limits::limits;
+use crate::{Summarized, Summary};
 use lists::Words;
 use objects::Side;
 
@@ -14,30 +13,27 @@ fn limit_words(list: Words, count: u8) -> [[u16; 4]; 7]
     requires { count ≤ 7 }
     ensures { result ≡ rows_to list.words count }
 {
-    let none = [0; 4];
-    let mut rows = [none; 7];
-    let mut i: u8 = 0;
-    while i < count {
-        let at = i as usize;
-        let w = list.words[at];
-        let d = objects::decode(w);
-        if let Some(object) = d {
-            let row = limits(object);
-            rows[at] = row;
+    let mut rows = [[0; 4]; 7];
+    for i in 0..count as usize {
+        if let Some(object) = objects::decode(list.words[i]) {
+            rows[i] = limits(object);
         }
-        i += 1;
     }
     rows
 }
 
-// The summary of a list. Refusals: those of `lists::shape`, with their places.
+// The summary of a list. Refusals: those of `lists::shape`, with their places. Of a list that is refused there is no word to read, so its
+// summary is all zero.
 pub fn summarize(list: Words) -> Summarized
     ensures { Summarizes list result }
 {
     let shaped = lists::readable(Side::Source, list);
-    let verdict = shaped.verdict;
-    let count = shaped.count;
-    let rows = limit_words(list, count);
-    let summary = hold(count, rows);
-    Summarized { verdict, summary }
+    let rows = limit_words(list, shaped.count);
+    Summarized {
+        verdict: shaped.verdict,
+        summary: Summary {
+            count: shaped.count,
+            rows,
+        },
+    }
 }

@@ -1,5 +1,6 @@
 // What a call answers: the number of its refusal and the place (docs/STATEMENT.md, "Refusal numbers"). Every number has its
-// name here and nowhere else. There is no 8, and 21 is withdrawn: it is not given again.
+// name here and nowhere else. There is no 8, and 21 is withdrawn: it is not given again. The names are numbers and no enum: the number is a
+// byte of C's, and `lists::refuse`, `lists::finished` and `ports::offer` answer for every number (`Refuses`, `Finishes`, `Offers`).
 
 #![tactic(auto)]
 

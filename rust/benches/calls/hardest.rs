@@ -13,7 +13,7 @@ use crate::wrappers::library::{flat_take_request, sink_flat_read, sink_shape, su
 use arinduleu::flat::{FlatObjects, FlatRequest};
 use arinduleu::lists::Words;
 use arinduleu::messages::{Header, Message};
-use arinduleu::objects::{Decoded, Object};
+use arinduleu::objects::Object;
 use arinduleu::ports::Row;
 use arinduleu::rules::Profile;
 use arinduleu::sinks::SinkObject;
@@ -131,15 +131,9 @@ pub fn lists() -> Vec<Words> {
 /// A step more where the list has 3 A below 20 V. With a cable above 3 A the rule check has to divide for it, and at 3 A it need not.
 fn past_3_a(list: Words) -> Words {
     let words = list.words.map(|word| match decode(word) {
-        Decoded::Known(Object::Fixed { volts, current, .. })
-            if volts.0 < 400 && current.0 == 300 =>
-        {
-            word + 1
-        }
-        Decoded::Known(Object::Pps { max, current, .. }) if max.0 < 210 && current.0 == 60 => {
-            word + 1
-        }
-        Decoded::Known(Object::Avs { low, .. }) if low.0 == 300 => word + (1 << 10),
+        Some(Object::Fixed { volts, current, .. }) if volts.0 < 400 && current.0 == 300 => word + 1,
+        Some(Object::Pps { max, current, .. }) if max.0 < 210 && current.0 == 60 => word + 1,
+        Some(Object::Avs { low, .. }) if low.0 == 300 => word + (1 << 10),
         _ => word,
     });
     Words { words, ..list }
@@ -236,13 +230,13 @@ fn most_of(list: Words, at: u8) -> u32 {
         u32::from(operating) << 10 | u32::from(volts) << 9 | u32::from(current)
     };
     let asked = match decode(list.words[usize::from(at)]) {
-        Decoded::Known(Object::Fixed { current, .. } | Object::Variable { current, .. }) => {
+        Some(Object::Fixed { current, .. } | Object::Variable { current, .. }) => {
             figures(current.0, 0, current.0)
         }
-        Decoded::Known(Object::Battery { power, .. }) => figures(power.0, 0, power.0),
-        Decoded::Known(Object::Pps { max, current, .. }) => figures(0, 5 * max.0, current.0),
-        Decoded::Known(Object::Avs { low, .. }) => figures(0, 600, low.0 / 5),
-        Decoded::NotAllowed => unreachable!("these lists pass the shape check"),
+        Some(Object::Battery { power, .. }) => figures(power.0, 0, power.0),
+        Some(Object::Pps { max, current, .. }) => figures(0, 5 * max.0, current.0),
+        Some(Object::Avs { low, .. }) => figures(0, 600, low.0 / 5),
+        None => unreachable!("these lists pass the shape check"),
     };
     u32::from(at + 1) << 28 | asked
 }

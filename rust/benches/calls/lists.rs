@@ -6,12 +6,12 @@ use crate::objects::widened;
 use crate::wrappers::library::{build, encode, flat_read, read};
 use arinduleu::flat::FlatObjects;
 use arinduleu::lists::{Objects, Words, EMPTY_PLACE};
-use arinduleu::objects::{Encoded, Object};
+use arinduleu::objects::Object;
 use arinduleu::rules::Profile;
 use arinduleu::steps::{HalfWatts, Ma10, Ma50, Mv100, Mv50, Mw250};
 
 pub fn push(list: &mut Words, object: Object) {
-    if let Encoded::Word(word) = encode(object) {
+    if let Some(word) = encode(object) {
         if list.count < 7 {
             list.words[usize::from(list.count)] = word;
             list.count += 1;

@@ -5,7 +5,7 @@ use crate::lists::{good_list, list};
 use crate::wrappers::library::{decode, flatten};
 use arinduleu::flat::FlatObject;
 use arinduleu::lists::Words;
-use arinduleu::objects::{Decoded, Object, Side};
+use arinduleu::objects::{Object, Side};
 use arinduleu::steps::{Ma10, Ma50, Mw250};
 
 /// The words of lists; one in sixteen is any word at all.
@@ -36,7 +36,7 @@ pub fn words_of_a_side() -> Vec<(Side, u32)> {
 fn good_object(dice: &mut Dice) -> (Object, u32) {
     loop {
         let word = word(dice);
-        if let Decoded::Known(object) = decode(word) {
+        if let Some(object) = decode(word) {
             return (object, word);
         }
     }
@@ -135,7 +135,7 @@ fn good_request(dice: &mut Dice, object: Object) -> u32 {
 /// A request to one place of a list; one in four has a bit turned, and some of these are refused.
 pub fn request(dice: &mut Dice, list: Words) -> u32 {
     let at = dice.below(u32::from(list.count.clamp(1, 7)));
-    let Decoded::Known(object) = decode(list.words[at as usize]) else {
+    let Some(object) = decode(list.words[at as usize]) else {
         return dice.any();
     };
     let word = good_request(dice, object) | (at + 1) << 28;

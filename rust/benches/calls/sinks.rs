@@ -4,12 +4,11 @@ use crate::inputs::{many, Dice};
 use crate::wrappers::library::{sink_decode, sink_encode, sink_flat_read, sink_read};
 use arinduleu::flat::FlatObjects;
 use arinduleu::lists::Words;
-use arinduleu::objects::Encoded;
-use arinduleu::sinks::{SinkDecoded, SinkObject, SinkObjects};
+use arinduleu::sinks::{SinkObject, SinkObjects};
 use arinduleu::steps::{Ma10, Ma50, Mv100, Mv50, Mw250};
 
 pub fn push(list: &mut Words, object: SinkObject) {
-    if let Encoded::Word(word) = sink_encode(object) {
+    if let Some(word) = sink_encode(object) {
         if list.count < 7 {
             list.words[usize::from(list.count)] = word;
             list.count += 1;
@@ -203,7 +202,7 @@ pub fn words() -> Vec<u32> {
 /// One in sixteen has a field too wide.
 pub fn objects() -> Vec<SinkObject> {
     many(31, |dice| loop {
-        if let SinkDecoded::Known(object) = sink_decode(word(dice)) {
+        if let Some(object) = sink_decode(word(dice)) {
             break match dice.one_in(16) {
                 true => widened(object),
                 false => object,

@@ -21,7 +21,7 @@ pub struct Asked {
 
 /// None for a request that only the list can answer.
 pub fn asked(list: Words, word: u32) -> Option<Asked> {
-    let TakenRequest::Quick(request) = take_request(list, word) else {
+    let Ok(TakenRequest::Quick(request)) = take_request(list, word) else {
         return None;
     };
     Some(Asked {

@@ -2,15 +2,15 @@
 
 use crate::inputs::Turn;
 use crate::messages::Lent;
-use arinduleu::flat::{FlatObject, FlatObjects, FlatReading, FlatRequest, FlatTaken, Raised};
+use arinduleu::flat::{FlatObject, FlatObjects, FlatReading, FlatRequest, FlatTaken};
 use arinduleu::lists::{Listing, Objects, Reading, Words};
 use arinduleu::messages::{Header, Message, MessageReading, Written};
-use arinduleu::objects::{Decoded, Encoded, Object, Side};
+use arinduleu::objects::{Object, Side};
 use arinduleu::ports::{RemainingPower, Row};
 use arinduleu::requests::{Asked, Request};
 use arinduleu::rules::{Profile, Profiled};
-use arinduleu::sinks::{SinkDecoded, SinkObject, SinkObjects, SinkReading};
-use arinduleu::steps::{InMa10, InMa50, InMv100, InMv20, InMv50, Roundings};
+use arinduleu::sinks::{SinkObject, SinkObjects, SinkReading};
+use arinduleu::steps::{Ma10, Ma50, Mv100, Mv20, Mv50, Roundings};
 use arinduleu::summaries::{QuickAsked, QuickRequest, Summarized, Summary, TakenRequest};
 use arinduleu::verdicts::Verdict;
 
@@ -32,6 +32,13 @@ macro_rules! same {
 }
 
 same! { bool u8 u16 u32 Lent }
+
+impl<A: Plain> Plain for Option<A> {
+    type Model = Option<A::Model>;
+    fn plain(&self) -> Self::Model {
+        self.as_ref().map(A::plain)
+    }
+}
 
 impl<A: Plain, B: Plain> Plain for (A, B) {
     type Model = (A::Model, B::Model);
@@ -78,6 +85,11 @@ pub struct PlainTurn {
 }
 
 translate! {
+    Mv20 => u16: |it| it.0;
+    Mv50 => u16: |it| it.0;
+    Mv100 => u16: |it| it.0;
+    Ma10 => u16: |it| it.0;
+    Ma50 => u16: |it| it.0;
     Roundings => (u32, u32): |r| (r.down, r.up);
     Verdict => model::Verdict: |v| model::Verdict { number: v.number, place: v.place };
     Words => model::Words: |l| model::Words { words: l.words, count: l.count };
@@ -113,7 +125,6 @@ translate! {
     };
     SinkObjects => model::SinkObjects: |l| model::SinkObjects { places: l.places.map(|place| place.object.plain()), count: l.count };
     SinkReading => model::SinkReading: |r| model::SinkReading { verdict: r.verdict.plain(), list: r.list.plain() };
-    SinkDecoded => Option<model::SinkObject>: |d| match d { SinkDecoded::Known(o) => Some(o.plain()), SinkDecoded::NotAllowed => None };
     FlatObject => model::FlatObject: |f| model::FlatObject {
         kind: f.kind, flags: f.flags, peak: f.peak, limited: f.limited, volts: f.volts.0, max: f.max.0, min: f.min.0,
         power: f.power.0, current: f.current.0, max100: f.max100.0, min100: f.min100.0, current50: f.current50.0,
@@ -140,24 +151,16 @@ translate! {
     QuickAsked => model::DecodedRequest: |a| model::DecodedRequest {
         position: a.position, mismatch: a.mismatch, figures: a.request.plain(),
     };
-    TakenRequest => model::Taken: |t| match t {
-        TakenRequest::Refused(verdict) => model::Taken::Refused(verdict.plain()),
-        TakenRequest::Battery { .. } => model::Taken::Battery,
-        TakenRequest::Quick(asked) => model::Taken::Decoded(asked.plain()),
+    Result<TakenRequest, Verdict> => model::Taken: |t| match t {
+        Err(verdict) => model::Taken::Refused(verdict.plain()),
+        Ok(TakenRequest::Battery { .. }) => model::Taken::Battery,
+        Ok(TakenRequest::Quick(asked)) => model::Taken::Decoded(asked.plain()),
     };
     FlatRequest => model::FlatRequest: |f| model::FlatRequest {
         kind: f.kind, position: f.position, mismatch: f.mismatch, operating: f.operating.0, maximum: f.maximum.0,
         volts20: f.volts20.0, volts25: f.volts25.0, current50: f.current50.0,
     };
     FlatTaken => model::FlatTaken: |t| model::FlatTaken { verdict: t.verdict.plain(), request: t.request.plain() };
-    Decoded => Option<model::Object>: |d| match d { Decoded::Known(o) => Some(o.plain()), Decoded::NotAllowed => None };
-    Raised => Option<model::Object>: |r| match r { Raised::Known(o) => Some(o.plain()), Raised::Unknown => None };
-    Encoded => Option<u32>: |e| match e { Encoded::Word(w) => Some(w), Encoded::TooWide => None };
-    InMv20 => Option<u16>: |i| match i { InMv20::Exact(f) => Some(f.0), InMv20::Refused => None };
-    InMv50 => Option<u16>: |i| match i { InMv50::Exact(f) => Some(f.0), InMv50::Refused => None };
-    InMv100 => Option<u16>: |i| match i { InMv100::Exact(f) => Some(f.0), InMv100::Refused => None };
-    InMa10 => Option<u16>: |i| match i { InMa10::Exact(f) => Some(f.0), InMa10::Refused => None };
-    InMa50 => Option<u16>: |i| match i { InMa50::Exact(f) => Some(f.0), InMa50::Refused => None };
     Turn => PlainTurn: |t| PlainTurn {
         rows: t.rows.plain(), count: t.count, capacity: t.capacity, port: t.port, cable: t.cable, word: t.word,
     };

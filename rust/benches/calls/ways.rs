@@ -70,13 +70,13 @@ fn flat_decoded(inputs: Vec<Asked>) -> Call {
 
 /// The request is decoded with each answer, and what is for the list goes there, as whoever gets words has it.
 fn each_word(inputs: Vec<Asked>) -> Call {
-    let take: fn(Words, u32) -> TakenRequest = black_box(library::take_request);
+    let take: fn(Words, u32) -> Result<TakenRequest, Verdict> = black_box(library::take_request);
     let quick: fn(Summary, QuickAsked) -> Verdict = black_box(library::answer_summary);
     let answer: Answer = black_box(library::answer);
     against_the_list(inputs, move |a| match take(a.list, a.word) {
-        TakenRequest::Refused(verdict) => verdict,
-        TakenRequest::Battery { .. } => answer(a.list, a.word),
-        TakenRequest::Quick(request) => quick(a.summary, request),
+        Err(verdict) => verdict,
+        Ok(TakenRequest::Battery { .. }) => answer(a.list, a.word),
+        Ok(TakenRequest::Quick(request)) => quick(a.summary, request),
     })
 }
 

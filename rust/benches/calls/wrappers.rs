@@ -12,20 +12,15 @@ macro_rules! wrap {
 
 pub mod library {
     use arinduleu::board;
-    use arinduleu::flat::{
-        self, FlatObject, FlatObjects, FlatReading, FlatRequest, FlatTaken, Raised,
-    };
+    use arinduleu::flat::{self, FlatObject, FlatObjects, FlatReading, FlatRequest, FlatTaken};
     use arinduleu::lists::{self, Listing, Objects, Reading, Words};
     use arinduleu::messages::{Message, MessageReading, Written};
-    use arinduleu::objects::{self, Decoded, Encoded, Object, Side};
+    use arinduleu::objects::{self, Object, Side};
     use arinduleu::ports::{RemainingPower, Row};
     use arinduleu::requests::{self, Asked};
     use arinduleu::rules::{Profile, Profiled};
-    use arinduleu::sinks::{self, SinkDecoded, SinkObject, SinkObjects, SinkReading};
-    use arinduleu::steps::{
-        self, InMa10, InMa50, InMv100, InMv20, InMv50, Ma10, Ma50, Mv100, Mv20, Mv25, Mv50,
-        Roundings,
-    };
+    use arinduleu::sinks::{self, SinkObject, SinkObjects, SinkReading};
+    use arinduleu::steps::{self, Ma10, Ma50, Mv100, Mv20, Mv25, Mv50, Roundings};
     use arinduleu::summaries::{self, QuickAsked, Summarized, Summary, TakenRequest};
     use arinduleu::verdicts::Verdict;
 
@@ -44,7 +39,7 @@ pub mod library {
         summarize(list: Words) -> Summarized = board::arin_summarize(list);
         flat_take_request(list: Words, word: u32) -> FlatTaken = board::arin_take_request(list, word);
         flat_answer_summary(summary: Summary, request: FlatRequest) -> Verdict = board::arin_answer_summary(summary, request);
-        take_request(list: Words, word: u32) -> TakenRequest = summaries::take_request(list, word);
+        take_request(list: Words, word: u32) -> Result<TakenRequest, Verdict> = summaries::take_request(list, word);
         answer_summary(summary: Summary, asked: QuickAsked) -> Verdict = summaries::answer_summary(summary, asked);
 
         sink_shape(list: Words) -> Verdict = board::arin_sink_shape(list);
@@ -63,28 +58,28 @@ pub mod library {
         detach(rows: &mut [Row], capacity: u16, port: u8) -> Verdict = board::arin_detach(rows, capacity, port);
         remaining(rows: &[Row], capacity: u16) -> RemainingPower = board::arin_remaining(rows, capacity);
 
-        decode(word: u32) -> Decoded = objects::decode(word);
-        encode(object: Object) -> Encoded = objects::encode(object);
-        decode_for(side: Side, word: u32) -> Decoded = objects::decode_for(side, word);
+        decode(word: u32) -> Option<Object> = objects::decode(word);
+        encode(object: Object) -> Option<u32> = objects::encode(object);
+        decode_for(side: Side, word: u32) -> Option<Object> = objects::decode_for(side, word);
         reserved_bit_set(side: Side, object: Object, first: bool, word: u32) -> bool =
             objects::reserved_bit_set(side, object, first, word);
         read(list: Words) -> Reading = lists::read(list);
         write(list: Objects) -> Listing = lists::write(list);
-        sink_decode(word: u32) -> SinkDecoded = sinks::sink_decode(word);
-        sink_encode(object: SinkObject) -> Encoded = sinks::sink_encode(object);
+        sink_decode(word: u32) -> Option<SinkObject> = sinks::sink_decode(word);
+        sink_encode(object: SinkObject) -> Option<u32> = sinks::sink_encode(object);
         sink_read(list: Words) -> SinkReading = sinks::sink_read(list);
         sink_write(list: SinkObjects) -> Listing = sinks::sink_write(list);
         flatten(object: Object) -> FlatObject = flat::flatten(object);
-        raise(object: FlatObject) -> Raised = flat::raise(object);
+        raise(object: FlatObject) -> Option<Object> = flat::raise(object);
         position(word: u32) -> u8 = requests::position(word);
         take_apart(object: Object, word: u32) -> Asked = requests::take_apart(object, word);
 
-        mv20_to_mv100(figure: u16) -> InMv100 = Mv20(figure).to_mv100();
-        mv25_to_mv50(figure: u16) -> InMv50 = Mv25(figure).to_mv50();
-        mv50_to_mv20(figure: u16) -> InMv20 = Mv50(figure).to_mv20();
-        mv100_to_mv50(figure: u16) -> InMv50 = Mv100(figure).to_mv50();
-        ma10_to_ma50(figure: u16) -> InMa50 = Ma10(figure).to_ma50();
-        ma50_to_ma10(figure: u16) -> InMa10 = Ma50(figure).to_ma10();
+        mv20_to_mv100(figure: u16) -> Option<Mv100> = Mv20(figure).to_mv100();
+        mv25_to_mv50(figure: u16) -> Option<Mv50> = Mv25(figure).to_mv50();
+        mv50_to_mv20(figure: u16) -> Option<Mv20> = Mv50(figure).to_mv20();
+        mv100_to_mv50(figure: u16) -> Option<Mv50> = Mv100(figure).to_mv50();
+        ma10_to_ma50(figure: u16) -> Option<Ma50> = Ma10(figure).to_ma50();
+        ma50_to_ma10(figure: u16) -> Option<Ma10> = Ma50(figure).to_ma10();
         round_down(numerator: u32, divisor: u32) -> u32 = steps::round_down(numerator, divisor);
         round_up(numerator: u32, divisor: u32) -> u32 = steps::round_up(numerator, divisor);
         round_both(numerator: u32, divisor: u32) -> Roundings = steps::round_both(numerator, divisor);

@@ -264,13 +264,13 @@ impl ToLibrary for model::DecodedRequest {
 }
 
 /// The model does not say the position and the mismatch bit of what is for the list: the flat forms have them on both sides.
-impl ToModel for summaries::TakenRequest {
+impl ToModel for Result<summaries::TakenRequest, verdicts::Verdict> {
     type Model = model::Taken;
     fn model(self) -> model::Taken {
         match self {
-            summaries::TakenRequest::Refused(verdict) => model::Taken::Refused(verdict.model()),
-            summaries::TakenRequest::Battery { .. } => model::Taken::Battery,
-            summaries::TakenRequest::Quick(asked) => model::Taken::Decoded(asked.model()),
+            Err(verdict) => model::Taken::Refused(verdict.model()),
+            Ok(summaries::TakenRequest::Battery { .. }) => model::Taken::Battery,
+            Ok(summaries::TakenRequest::Quick(asked)) => model::Taken::Decoded(asked.model()),
         }
     }
 }

@@ -126,10 +126,7 @@ fn words_at_places() {
                 }
                 _ => None,
             };
-            let library = match rules::word_at(profile.library(), place) {
-                rules::Placed::Word(word) => Some(word),
-                rules::Placed::NoPlace => None,
-            };
+            let library = rules::word_at(profile.library(), place);
             run.same("word_at", &(profile, place), library, word);
         }
         run.saw(built.verdict.number);

@@ -3,29 +3,20 @@
 use crate::common::convert::{ToLibrary, ToModel};
 use crate::common::run::Run;
 use crate::{objects_made, sinks_made};
-use arinduleu::objects::{decode_for, reserved_bit_set, Decoded, Encoded, Side};
-use arinduleu::sinks::{sink_decode, sink_encode, SinkDecoded};
+use arinduleu::objects::{decode_for, reserved_bit_set, Side};
+use arinduleu::sinks::{sink_decode, sink_encode};
 use model::{Object, SinkObject};
 
 fn decoded(word: u32) -> Option<SinkObject> {
-    match sink_decode(word) {
-        SinkDecoded::Known(object) => Some(object.model()),
-        SinkDecoded::NotAllowed => None,
-    }
+    Some(sink_decode(word)?.model())
 }
 
 fn decoded_for(side: Side, word: u32) -> Option<Object> {
-    match decode_for(side, word) {
-        Decoded::Known(object) => Some(object.model()),
-        Decoded::NotAllowed => None,
-    }
+    Some(decode_for(side, word)?.model())
 }
 
 fn encoded(object: SinkObject) -> Option<u32> {
-    match sink_encode(object.library()) {
-        Encoded::Word(word) => Some(word),
-        Encoded::TooWide => None,
-    }
+    sink_encode(object.library())
 }
 
 #[test]

@@ -3,26 +3,6 @@
 use crate::common::run::Run;
 use arinduleu::steps::*;
 
-/// What a conversion answers, as the model has it.
-trait Answer {
-    fn figure(self) -> Option<u16>;
-}
-
-macro_rules! answers {
-    ($($answer:ident)*) => { $(
-        impl Answer for $answer {
-            fn figure(self) -> Option<u16> {
-                match self {
-                    $answer::Exact(figure) => Some(figure.0),
-                    $answer::Refused => None,
-                }
-            }
-        }
-    )* };
-}
-
-answers! { InMv20 InMv25 InMv50 InMv100 InMa10 InMa50 }
-
 type Conversion = (&'static str, fn(u16) -> Option<u16>, u16, u16);
 
 // The name, the call, the step it converts from, and the step it converts to.
@@ -30,7 +10,7 @@ macro_rules! conversions {
     ($($step:ident $call:ident $from:literal $to:literal)*) => {
         [$((
             concat!(stringify!($step), "::", stringify!($call)),
-            (|figure| $step(figure).$call().figure()) as fn(u16) -> Option<u16>,
+            (|figure| $step(figure).$call().map(|it| it.0)) as fn(u16) -> Option<u16>,
             $from,
             $to,
         )),*]

@@ -29,7 +29,12 @@ fn summaries_made_of_lists() {
         run.same("arin_summarize", &list, of_board, stated);
         let rows = rows_of(made.summary);
         run.same("rows_of", &list, rows, stated.summary.rows);
-        run.same("shape", &list, shape(list.library()).model(), stated.verdict);
+        run.same(
+            "shape",
+            &list,
+            shape(list.library()).model(),
+            stated.verdict,
+        );
         run.saw(stated.verdict.number);
     }
     run.finish(MADE, &[]);
@@ -47,7 +52,7 @@ fn requests_decoded() {
             let stated = model::take_request(&list, word);
             let taken = take_request(list.library(), word);
             run.same("take_request", &input, taken.model(), stated);
-            if let TakenRequest::Battery { position, mismatch } = taken {
+            if let Ok(TakenRequest::Battery { position, mismatch }) = taken {
                 let of_word = (requests::position(word), word >> 26 & 1 == 1);
                 run.same("of a battery", &input, (position, mismatch), of_word);
             }
@@ -153,9 +158,9 @@ fn clear(summary: &Summary, request: FlatRequest) -> u8 {
 fn by_the_summary(list: &Words, summary: Summary, word: u32) -> Verdict {
     let (words, summary) = (list.library(), summary.library());
     match take_request(words, word) {
-        TakenRequest::Refused(verdict) => verdict.model(),
-        TakenRequest::Battery { .. } => requests::answer(words, word).model(),
-        TakenRequest::Quick(asked) => answer_summary(summary, asked).model(),
+        Err(verdict) => verdict.model(),
+        Ok(TakenRequest::Battery { .. }) => requests::answer(words, word).model(),
+        Ok(TakenRequest::Quick(asked)) => answer_summary(summary, asked).model(),
     }
 }
 

@@ -4,20 +4,16 @@ use crate::common::convert::{ToLibrary, ToModel};
 use crate::common::random::Random;
 use crate::common::run::Run;
 use crate::objects_made;
-use arinduleu::flat::{flatten, raise, Raised};
+use arinduleu::flat::{flatten, raise};
 use arinduleu::objects::{
-    avs_word, decode, encode, fixed_word, is_kind, pps_word, reserved_bit_set, Decoded, Encoded,
-    Side, BITS_AVS, BITS_BATTERY, BITS_EPR_AVS, BITS_FIXED, BITS_PPS, BITS_UNASSIGNED,
-    BITS_VARIABLE,
+    avs_word, decode, encode, fixed_word, is_kind, pps_word, reserved_bit_set, Side, BITS_AVS,
+    BITS_BATTERY, BITS_EPR_AVS, BITS_FIXED, BITS_PPS, BITS_UNASSIGNED, BITS_VARIABLE,
 };
 use arinduleu::steps::{Ma10, Ma50, Mv100, Mv50};
 use model::{FlatObject, Object};
 
 fn decoded(word: u32) -> Option<Object> {
-    match decode(word) {
-        Decoded::Known(object) => Some(object.model()),
-        Decoded::NotAllowed => None,
-    }
+    Some(decode(word)?.model())
 }
 
 const KINDS: [u32; 7] = [
@@ -41,15 +37,8 @@ fn bits_of(object: Object) -> u32 {
     }
 }
 
-fn word_of(encoded: Encoded) -> Option<u32> {
-    match encoded {
-        Encoded::Word(word) => Some(word),
-        Encoded::TooWide => None,
-    }
-}
-
 fn encoded(object: Object) -> Option<u32> {
-    word_of(encode(object.library()))
+    encode(object.library())
 }
 
 /// By the word maker of its own kind; two kinds have none.
@@ -60,23 +49,20 @@ fn encoded_by_kind(object: Object) -> Option<u32> {
             peak,
             volts,
             current,
-        } => word_of(fixed_word(flags, peak, Mv50(volts), Ma10(current))),
+        } => fixed_word(flags, peak, Mv50(volts), Ma10(current)),
         Object::Pps {
             limited,
             max,
             min,
             current,
-        } => word_of(pps_word(limited, Mv100(max), Mv100(min), Ma50(current))),
-        Object::Avs { peak, low, high } => word_of(avs_word(peak, Ma10(low), Ma10(high))),
+        } => pps_word(limited, Mv100(max), Mv100(min), Ma50(current)),
+        Object::Avs { peak, low, high } => avs_word(peak, Ma10(low), Ma10(high)),
         Object::Battery { .. } | Object::Variable { .. } => encoded(object),
     }
 }
 
 fn raised(flat: FlatObject) -> Option<Object> {
-    match raise(flat.library()) {
-        Raised::Known(object) => Some(object.model()),
-        Raised::Unknown => None,
-    }
+    Some(raise(flat.library())?.model())
 }
 
 #[test]
@@ -161,7 +147,7 @@ fn words_there_and_back() {
             "raise after flatten",
             &object,
             raise(flat),
-            Raised::Known(object.library()),
+            Some(object.library()),
         );
     }
     run.finish(&[], &[]);

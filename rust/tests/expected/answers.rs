@@ -1,4 +1,4 @@
-//! Every answer as a `Result` or an `Option`: `?` gives the value or the refusal of the call itself.
+//! Every answer with a verdict as a `Result`: `?` gives the value or the refusal of the call itself.
 
 use arinduleu::flat::{self, FlatObject, FlatObjects, FlatRequest};
 use arinduleu::lists::{self, Objects, Words};
@@ -8,7 +8,7 @@ use arinduleu::ports::{Row, NO_ROW};
 use arinduleu::rules::{self, Profile};
 use arinduleu::sinks::{self, SinkObject, SinkObjects};
 use arinduleu::steps::{HalfWatts, Ma10, Ma50, Mv100, Mv20, Mv25, Mv50};
-use arinduleu::summaries::{self, QuickAsked, QuickRequest, Summary, TakenRequest};
+use arinduleu::summaries::{self, QuickRequest, Summary, TakenRequest};
 use arinduleu::verdicts::Verdict;
 use arinduleu::{board, requests, verdicts, Refusal};
 
@@ -95,24 +95,22 @@ fn sink_lists() {
     let flags = refusal(verdicts::RESERVED_BIT, 2);
     assert_eq!(sinks::sink_read(twice).ok(), Err(flags));
 
-    let fixed = sinks::sink_decode(list.words[0]).ok().unwrap();
-    assert_eq!(sinks::sink_encode(fixed).ok(), Ok(list.words[0]));
-    let no_kind = refusal(verdicts::KIND_NOT_ALLOWED, 0);
-    assert_eq!(sinks::sink_decode(0xE004_B12C).ok(), Err(no_kind));
+    let fixed = sinks::sink_decode(list.words[0]).unwrap();
+    assert_eq!(sinks::sink_encode(fixed), Some(list.words[0]));
+    assert_eq!(sinks::sink_decode(0xE004_B12C), None);
     let wide = SinkObject::Fixed {
         flags: 128,
         volts: Mv50(100),
         current: Ma10(300),
     };
-    let too_wide = refusal(verdicts::FIELD_TOO_WIDE, 0);
-    assert_eq!(sinks::sink_encode(wide).ok(), Err(too_wide));
+    assert_eq!(sinks::sink_encode(wide), None);
 }
 
 #[test]
 fn summaries_and_decoded_requests() {
     fn answered(list: Words, word: u32) -> Result<bool, Refusal> {
         let summary = summaries::summarize(list).ok()?;
-        let Some(asked) = summaries::take_request(list, word).ok()? else {
+        let TakenRequest::Quick(asked) = summaries::take_request(list, word)? else {
             return Ok(false);
         };
         summaries::answer_summary(summary, asked).ok()?;
@@ -142,8 +140,7 @@ fn summaries_and_decoded_requests() {
     let no_kind = refusal(verdicts::KIND_NOT_ALLOWED, 0);
     assert_eq!(flat_answered(battery, 0x2003_20C8), Err(no_kind));
     // One that nobody gives: a refusal that is none.
-    let success = TakenRequest::Refused(Verdict::default());
-    assert_eq!(success.ok(), Ok(None));
+    assert_eq!(Refusal::from(Verdict::default()), refusal(255, 0));
 }
 
 #[test]
@@ -177,23 +174,17 @@ fn ports_that_share() {
 #[test]
 fn one_object() {
     let list = example().unwrap();
-    let fixed = objects::decode(list.words[0]).ok().unwrap();
-    assert_eq!(objects::encode(fixed).ok(), Ok(list.words[0]));
-    assert_eq!(flat::raise(flat::flatten(fixed)).ok(), Ok(fixed));
-    assert_eq!(
-        objects::decode(0xF000_0000).ok(),
-        Err(refusal(verdicts::KIND_NOT_ALLOWED, 0))
-    );
+    let fixed = objects::decode(list.words[0]).unwrap();
+    assert_eq!(objects::encode(fixed), Some(list.words[0]));
+    assert_eq!(flat::raise(flat::flatten(fixed)), Some(fixed));
+    assert_eq!(objects::decode(0xF000_0000), None);
     let wide = objects::fixed_word(0, 4, Mv50(100), Ma10(300));
-    assert_eq!(wide.ok(), Err(refusal(verdicts::FIELD_TOO_WIDE, 0)));
+    assert_eq!(wide, None);
     let of_no_kind = FlatObject {
         kind: 5,
         ..FlatObject::default()
     };
-    assert_eq!(
-        flat::raise(of_no_kind).ok(),
-        Err(refusal(verdicts::KIND_NOT_ALLOWED, 0))
-    );
+    assert_eq!(flat::raise(of_no_kind), None);
 }
 
 #[test]
@@ -202,12 +193,9 @@ fn one_word_of_a_list() {
     let default = rules::default_profile(HalfWatts(72)).ok().unwrap();
     let profile = Profile { pps: 1, ..default };
     for (at, word) in (1..).zip(list.as_slice()) {
-        assert_eq!(rules::word_at(profile, at).ok(), Ok(*word));
+        assert_eq!(rules::word_at(profile, at), Some(*word));
     }
-    assert_eq!(
-        rules::word_at(profile, 7).ok(),
-        Err(refusal(verdicts::POSITION, 0))
-    );
+    assert_eq!(rules::word_at(profile, 7), None);
     assert_eq!(
         requests::answer(list, 0x7000_0000).ok(),
         Err(refusal(verdicts::POSITION, 0))
@@ -229,9 +217,10 @@ fn answers_are_turned_into_results() {
     assert_eq!(flat.unwrap().count, 6);
     let summary: Result<Summary, Refusal> = summaries::summarize(list).into();
     assert_eq!(summary.unwrap().as_slice().len(), 6);
-    let taken: Result<Option<QuickAsked>, Refusal> =
-        summaries::take_request(list, 0x1004_B12C).into();
-    let asked = taken.unwrap().unwrap();
+    let taken: Result<TakenRequest, Verdict> = summaries::take_request(list, 0x1004_B12C);
+    let Ok(TakenRequest::Quick(asked)) = taken else {
+        panic!("no request for a summary: {taken:?}");
+    };
     let (operating, maximum) = (Ma10(300), Ma10(300));
     assert_eq!(asked.request, QuickRequest::Fixed { operating, maximum });
     let request: Result<FlatRequest, Refusal> = flat::flat_take_request(list, 0).into();
@@ -239,8 +228,7 @@ fn answers_are_turned_into_results() {
     let none = Words::default();
     let needs: Result<SinkObjects, Refusal> = sinks::sink_read(none).into();
     assert_eq!(needs, Err(refusal(verdicts::COUNT, 0)));
-    let object: Result<SinkObject, Refusal> = sinks::sink_decode(0).into();
-    assert_eq!(object, Ok(SinkObject::default()));
+    assert_eq!(sinks::sink_decode(0), Some(SinkObject::default()));
     let message = Message::request(Header::default(), 0x4005_1545);
     let length: Result<usize, Refusal> = messages::write_message(&mut [0; 6], message).into();
     assert_eq!(length, Ok(6));
@@ -248,28 +236,24 @@ fn answers_are_turned_into_results() {
     assert_eq!(message, Err(refusal(verdicts::MESSAGE_LENGTH, 0)));
     let power: Result<HalfWatts, Refusal> = board::arin_remaining(&[], 15).into();
     assert_eq!(power, Err(refusal(verdicts::ROW_COUNT, 0)));
-    let object: Result<Object, Refusal> = objects::decode(0xD000_0000).into();
-    assert_eq!(object, Err(refusal(verdicts::KIND_NOT_ALLOWED, 0)));
-    let word: Result<u32, Refusal> = objects::encode(Object::default()).into();
-    assert_eq!(word, Ok(0));
-    let word: Result<u32, Refusal> = rules::word_at(default.profile, 0).into();
-    assert_eq!(word, Err(refusal(verdicts::POSITION, 0)));
-    let object: Result<Object, Refusal> = flat::raise(FlatObject::default()).into();
-    assert_eq!(object, Ok(Object::default()));
+    assert_eq!(objects::decode(0xD000_0000), None);
+    assert_eq!(objects::encode(Object::default()), Some(0));
+    assert_eq!(rules::word_at(default.profile, 0), None);
+    assert_eq!(flat::raise(FlatObject::default()), Some(Object::default()));
 }
 
 #[test]
 fn conversions() {
-    assert_eq!(Mv50(100).to_mv20().exact(), Some(Mv20(250)));
-    assert_eq!(Mv50(1).to_mv20().exact(), None);
-    assert_eq!(Mv50(100).to_mv25().exact(), Some(Mv25(200)));
-    assert_eq!(Mv50(40000).to_mv25().exact(), None);
-    assert_eq!(Mv100(50).to_mv50().exact(), Some(Mv50(100)));
-    assert_eq!(Mv20(1).to_mv50().exact(), None);
-    assert_eq!(Mv50(100).to_mv100().exact(), Some(Mv100(50)));
-    assert_eq!(Mv50(101).to_mv100().exact(), None);
-    assert_eq!(Ma50(60).to_ma10().exact(), Some(Ma10(300)));
-    assert_eq!(Ma50(20000).to_ma10().exact(), None);
-    assert_eq!(Ma10(300).to_ma50().exact(), Some(Ma50(60)));
-    assert_eq!(Ma10(301).to_ma50().exact(), None);
+    assert_eq!(Mv50(100).to_mv20(), Some(Mv20(250)));
+    assert_eq!(Mv50(1).to_mv20(), None);
+    assert_eq!(Mv50(100).to_mv25(), Some(Mv25(200)));
+    assert_eq!(Mv50(40000).to_mv25(), None);
+    assert_eq!(Mv100(50).to_mv50(), Some(Mv50(100)));
+    assert_eq!(Mv20(1).to_mv50(), None);
+    assert_eq!(Mv50(100).to_mv100(), Some(Mv100(50)));
+    assert_eq!(Mv50(101).to_mv100(), None);
+    assert_eq!(Ma50(60).to_ma10(), Some(Ma10(300)));
+    assert_eq!(Ma50(20000).to_ma10(), None);
+    assert_eq!(Ma10(300).to_ma50(), Some(Ma50(60)));
+    assert_eq!(Ma10(301).to_ma50(), None);
 }

@@ -3,9 +3,9 @@
 use arinduleu::flat::{self, FlatObject, FlatObjects, FlatRequest, KIND_FIXED};
 use arinduleu::lists::{self, Objects, Place, Words, EMPTY_PLACE, NO_WORDS};
 use arinduleu::messages::{Header, Message, NO_MESSAGE};
-use arinduleu::objects::{self, Encoded, Object, Side};
+use arinduleu::objects::{self, Object, Side};
 use arinduleu::ports::{Row, NO_ROW};
-use arinduleu::rules::{self, Placed, Profile};
+use arinduleu::rules::{self, Profile};
 use arinduleu::sinks::{self, SinkObject, SinkObjects, SinkPlace, EMPTY_SINK_PLACE};
 use arinduleu::steps::{HalfWatts, Ma10, Ma50, Mv100, Mv20, Mv25, Mv50, Mw250};
 use arinduleu::summaries::{self, Summary};
@@ -31,7 +31,7 @@ fn words_are_shown_in_hex() {
     let needs = sinks::sink_decode(0x0002_D0C8);
     assert_eq!(
         format!("{needs:?}"),
-        "Known(Fixed { flags: 0, volts: Mv50(180), current: Ma10(200) })"
+        "Some(Fixed { flags: 0, volts: Mv50(180), current: Ma10(200) })"
     );
     let list = Words { count: 1, ..list };
     assert_eq!(
@@ -41,17 +41,10 @@ fn words_are_shown_in_hex() {
     );
     assert_eq!(
         format!("{:?}", summaries::take_request(list, 0x1400_2803)),
-        "Quick(QuickAsked { position: 1, mismatch: true, request: Fixed { operating: Ma10(10), maximum: Ma10(3) } })"
+        "Ok(Quick(QuickAsked { position: 1, mismatch: true, request: Fixed { operating: Ma10(10), maximum: Ma10(3) } }))"
     );
     let listing = lists::refuse(verdicts::ORDER, 3);
     assert!(format!("{listing:?}").contains("Words { words: [0x00000000, "));
-    assert_eq!(
-        format!("{:?}", Encoded::Word(0xC8DC_323C)),
-        "Word(0xC8DC323C)"
-    );
-    assert_eq!(format!("{:?}", Encoded::TooWide), "TooWide");
-    assert_eq!(format!("{:?}", Placed::Word(10)), "Word(0x0000000A)");
-    assert_eq!(format!("{:?}", Placed::NoPlace), "NoPlace");
 }
 
 #[test]
@@ -59,12 +52,12 @@ fn defaults_are_all_zero() {
     assert_eq!(Verdict::default().ok(), Ok(()));
     assert_eq!(Words::default(), NO_WORDS);
     assert_eq!(Object::default(), EMPTY_PLACE.object);
-    assert_eq!(objects::encode(Object::default()), Encoded::Word(0));
+    assert_eq!(objects::encode(Object::default()), Some(0));
     assert_eq!(Place::default(), EMPTY_PLACE);
     assert_eq!(Objects::default().places, [EMPTY_PLACE; 7]);
     assert_eq!(Objects::default().count, 0);
     assert_eq!(SinkObject::default(), EMPTY_SINK_PLACE.object);
-    assert_eq!(sinks::sink_encode(SinkObject::default()), Encoded::Word(0));
+    assert_eq!(sinks::sink_encode(SinkObject::default()), Some(0));
     assert_eq!(SinkPlace::default(), EMPTY_SINK_PLACE);
     assert_eq!(SinkObjects::default().places, [EMPTY_SINK_PLACE; 7]);
     assert_eq!(SinkObjects::default().count, 0);
@@ -119,7 +112,7 @@ fn verdicts_are_ordered_by_number_and_then_by_place() {
 fn what_is_kept_in_collections() {
     let profiles = [60, 72, 60].map(|m| rules::default_profile(HalfWatts(m)).profile);
     let lists = profiles.map(|p| rules::build(p).list);
-    let objects = lists.map(|l| objects::decode(l.words[2]).ok().unwrap());
+    let objects = lists.map(|l| objects::decode(l.words[2]).unwrap());
     let rows = [60, 72, 60].map(|max| Row {
         max: HalfWatts(max),
         ..Row::default()
@@ -130,7 +123,7 @@ fn what_is_kept_in_collections() {
     assert_eq!(both::<Message>(&messages), 2);
     assert_eq!(both::<Header>(&messages.map(|m| m.header)), 1);
     assert_eq!(both::<Object>(&objects), 2);
-    let needs = lists.map(|l| sinks::sink_decode(l.words[2]).ok().unwrap());
+    let needs = lists.map(|l| sinks::sink_decode(l.words[2]).unwrap());
     assert_eq!(both::<SinkObject>(&needs), 2);
     assert_eq!(both::<Row>(&rows), 2);
     assert_eq!(both(&objects.map(arinduleu::flat::flatten)), 2);
@@ -165,8 +158,10 @@ fn an_answer_must_be_used() {
             continue;
         }
         assert!(line.contains(") -> "), "{line}");
-        assert_eq!(lines[at - 2], "#[must_use]", "{line}");
         assert!(lines[at - 1].starts_with("#[inline"), "{line}");
+        // A `Result` is marked itself.
+        let marked_itself = line.contains(") -> Result<");
+        assert_eq!(lines[at - 2] == "#[must_use]", !marked_itself, "{line}");
         marked += 1;
     }
     let table = include_str!("../../../docs/TRACE.md");

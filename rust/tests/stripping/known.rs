@@ -143,7 +143,7 @@ struct Empty;
 // ---- a heading
 // of two lines
 
-#[derive(Clone, Copy, PartialEq, Eq, Hash, Debug)]
+#[derive(PartialEq, Eq, Hash, Debug)]
 pub(crate) enum E {
     /// A variant.
     A { x: u8 },
@@ -210,29 +210,59 @@ fn every_known_form() {
     assert_eq!(stripped.modules, ["inner"]);
 }
 
-/// What a type derives beside that goes by its crate and its name.
+/// What a type derives goes by what it derives in the source, and by its crate and its name.
 #[test]
 fn derives_of_a_type() {
-    let derived = |krate, item| {
-        let source = format!("// Why.\n\n#[derive(Clone, Copy)]\n{item}\n");
+    let derived = |krate, derive, item| {
+        let source = format!("// Why.\n\n{derive}\n{item}\n");
         let text = strip("x.rt", krate, &source).unwrap().text;
         text.lines().nth(2).unwrap().to_string()
     };
+    let copied = "#[derive(Clone, Copy)]";
     let words = "pub struct Words {\n    pub count: u8,\n}";
+    let figure = "pub struct Mv20(pub u16);";
     assert_eq!(
-        derived("lists", words),
+        derived("lists", copied, words),
         "#[derive(Clone, Copy, PartialEq, Eq, Hash, Default, PartialOrd, Ord)]"
     );
     assert_eq!(
-        derived("home", words),
+        derived("home", copied, words),
         "#[derive(Clone, Copy, PartialEq, Eq, Hash, Debug)]"
     );
+    let every = "#[derive(Clone, Copy, PartialEq, Eq, Hash, Debug, Default, PartialOrd, Ord)]";
+    assert_eq!(derived("steps", copied, figure), every);
+    // Each once, whether it stands in the source or not, in any order, on one line or several.
+    for derive in [
+        "#[derive(Clone, Copy, PartialEq, Eq, PartialOrd, Ord)]",
+        "#[derive(Ord, PartialOrd, Eq, PartialEq, Copy, Clone)]",
+        "#[derive(Clone, Copy, Debug, Default, Hash)]",
+        "#[derive(\n    Clone,\n    Copy,\n    PartialEq,\n    Eq,\n)]",
+        "#[derive(\n    Clone, Copy, Ord\n)]",
+    ] {
+        assert_eq!(derived("steps", derive, figure), every, "{derive}");
+    }
     assert_eq!(
-        derived("steps", "pub struct Mv20(pub u16);"),
-        "#[derive(Clone, Copy, PartialEq, Eq, Hash, Debug, Default, PartialOrd, Ord)]"
+        derived("home", "#[derive(PartialOrd)]", figure),
+        "#[derive(PartialEq, Eq, Hash, Debug, PartialOrd)]"
     );
     assert_eq!(
-        derived("objects", "pub enum Encoded {\n    TooWide,\n}"),
+        derived("home", "#[derive(Clone, Copy, Default)]", figure),
+        "#[derive(Clone, Copy, PartialEq, Eq, Hash, Debug, Default)]"
+    );
+    // Shown in hex by hand, whatever the source derives.
+    assert_eq!(
+        derived(
+            "messages",
+            "#[derive(Clone, Copy, Debug)]",
+            "struct Message;"
+        ),
+        "#[derive(Clone, Copy, PartialEq, Eq, Hash, Default, PartialOrd, Ord)]"
+    );
+    // What has an impl by hand in its file is not derived.
+    let by_hand =
+        "struct A;\n\nimpl Default for A {}\n\nimpl fmt::Debug for A {}\n\nimpl Eq for AB {}";
+    assert_eq!(
+        derived("home", "#[derive(Clone, Copy)]", by_hand),
         "#[derive(Clone, Copy, PartialEq, Eq, Hash)]"
     );
 }

@@ -3,6 +3,7 @@
 #[path = "../../build/strip.rs"]
 mod strip;
 
+mod blocks;
 mod known;
 mod our_crates;
 mod refused;

@@ -1,55 +1,110 @@
 //! The proved source itself, against a rule that goes by lines and reads no Rust.
 
+use crate::strip::marks::{PUT_IN, WHOLE};
 use crate::strip::strip;
 use std::fs;
 use std::path::{Path, PathBuf};
 
 /// The crates that `build.rs` reads.
 const LIBRARY: [&str; 12] = [
-    "verdicts", "steps", "objects", "lists", "rules", "requests", "summaries", "messages", "sinks",
-    "ports", "flat", "board",
+    "verdicts",
+    "steps",
+    "objects",
+    "lists",
+    "rules",
+    "requests",
+    "summaries",
+    "messages",
+    "sinks",
+    "ports",
+    "flat",
+    "board",
 ];
 
-/// Line by line, and without reading Rust at all: every file of ours keeps contracts and `ghost use` on lines of their own. What goes on has
-/// further lines that are indented more, and a `ghost use` one more line that ends it.
+/// What begins a line that only the prover reads.
+const GHOST: [&str; 11] = [
+    "ghost ",
+    "pub ghost ",
+    "pub(crate) ghost ",
+    "const _: () = prove!(",
+    "impl Model for ",
+    "ensures ",
+    "requires ",
+    "prove!(",
+    "#[unsafe(no_mangle)]",
+    "#[tactic(",
+    "#![tactic(",
+];
+
+/// Of these, how many have a comment above them that goes with them.
+const SAID: usize = 7;
+
+fn is_comment(line: &String) -> bool {
+    line.trim_start().starts_with("//")
+}
+
+fn indent(line: &str) -> usize {
+    line.len() - line.trim_start().len()
+}
+
+/// Line by line, and without reading Rust at all: every file of ours keeps ghost text on lines of its own. What goes on has further lines that
+/// are indented more, and a line that ends it with a bracket as deep as the first.
 fn without_ghost_lines(name: &str, text: &str) -> Vec<String> {
-    let ghost = [
-        "ghost use ",
-        "ensures ",
-        "requires ",
-        "prove!(",
-        "#[unsafe(no_mangle)]",
-        "#[tactic(",
-        "#![tactic(",
-        "#[derive(Clone, Copy)]",
-    ];
-    let indent = |line: &str| line.len() - line.trim_start().len();
-    let mut kept = Vec::new();
+    let mut kept: Vec<String> = Vec::new();
     let mut above = None;
+    let mut model = false;
     for line in text.lines() {
-        if above.is_some_and(|a| indent(line) > a) || above == Some(0) && line == "};" {
+        let begins = line.trim_start();
+        if model {
+            model = line != "}";
             continue;
         }
-        let is_ghost = ghost.iter().any(|g| line.trim_start().starts_with(g));
-        above = is_ghost.then_some(indent(line));
-        if !is_ghost {
-            kept.push(line);
+        let goes_on = |a| indent(line) > a || indent(line) == a && begins.starts_with(['}', ')']);
+        if above.is_some_and(goes_on) {
+            end_of_a_declaration(line, &mut kept);
+            continue;
+        }
+        let ghost = GHOST.iter().position(|g| begins.starts_with(g));
+        let derive = begins.starts_with("#[derive(");
+        above = (ghost.is_some() || derive).then_some(indent(line));
+        model = ghost == Some(4);
+        if ghost.is_some_and(|at| at < SAID) {
+            // But for that at the head of the file.
+            while !kept.iter().all(is_comment) && kept.last().is_some_and(is_comment) {
+                kept.pop();
+            }
+            end_of_a_declaration(line, &mut kept);
+        }
+        if above.is_none() {
+            kept.push(line.to_string());
         }
     }
     let kept = kept.into_iter();
     kept.map(|line| match line.trim_start().starts_with("//") {
-        true => line.to_string(),
+        true => line,
         false => line
             .replace("extern \"C\" fn", "fn")
+            .replace("std::", "core::")
             .replace("crate::", &format!("crate::{name}::")),
     })
     .collect()
 }
 
+/// Where a trait declares a function, the semicolon behind its last clause is that of the function.
+fn end_of_a_declaration(line: &str, kept: &mut [String]) {
+    let Some(last) = kept.last_mut() else {
+        return;
+    };
+    let clause = !line.trim_start().starts_with("ghost ") && last.trim_start().starts_with("fn ");
+    if clause && line.ends_with("};") {
+        last.push(';');
+    }
+}
+
 /// The lines that the reader gives, with plain comments again and without the attributes that it adds.
 fn without_additions(text: &str) -> Vec<String> {
     let added = [
-        "#[derive(Clone, Copy, ",
+        "#[derive(",
         "#[inline]",
         "#[inline(always)]",
         "#[inline(never)]",
@@ -109,32 +164,49 @@ fn our_crates_are_left_as_they_are() {
     assert!(lines > 2000);
 }
 
-/// The functions that the reader knows by name are there, under the marks that it has for them.
+/// Each function of a crate by its path, with the mark for rustc that the reader put above it.
+fn marked(name: &str) -> Vec<(String, String)> {
+    let mut found = Vec::new();
+    for (file, text) in files(name) {
+        let stripped = strip(&file, name, &text).unwrap();
+        let (mut of, mut mark) = (String::new(), "");
+        for line in stripped.text.lines() {
+            let code = line.trim_start();
+            let code = code.strip_prefix("pub(crate) ").unwrap_or(code);
+            let code = code.strip_prefix("pub ").unwrap_or(code);
+            let word = |text: &str| {
+                let text = text.split(|c: char| !c.is_ascii_alphanumeric() && c != '_');
+                text.map(String::from).next().unwrap_or_default()
+            };
+            if line.starts_with("impl") {
+                let header = line.rsplit_once(" for ").map(|it| it.1);
+                let header = header.unwrap_or_else(|| line.split_once(' ').unwrap().1);
+                of = word(header) + "::";
+            } else if line == "}" {
+                of.clear();
+            } else if code.starts_with("#[inline") {
+                mark = code;
+            } else if let Some(named) = code.strip_prefix("fn ") {
+                let path = format!("{name}::{of}{}", word(named));
+                found.push((path, mark.to_string()));
+            }
+        }
+    }
+    found
+}
+
+/// The functions that the reader knows by name are there, under the marks that it has for them, and no other is kept whole.
 #[test]
 fn functions_known_by_name() {
-    let library = include_str!(concat!(env!("OUT_DIR"), "/library.rs"));
-    let marked = |mark: &str| -> Vec<&str> {
-        let behind = library.split(mark).skip(1);
-        let seen = behind.map(|text| text.trim_start().trim_start_matches("pub(crate) "));
-        seen.filter_map(|text| text.trim_start_matches("pub ").split('(').next()).collect()
+    let functions: Vec<(String, String)> = LIBRARY.into_iter().flat_map(marked).collect();
+    let with = |mark: &str| -> Vec<&str> {
+        let marked = functions.iter().filter(|it| it.1 == mark);
+        marked.map(|it| it.0.as_str()).collect()
     };
-    assert_eq!(
-        marked("#[inline(never)]"),
-        ["fn shape", "fn shape_sink", "fn row_at"]
-    );
-    let always = marked("#[inline(always)]");
-    for name in [
-        "fn decode_sink",
-        "fn encode",
-        "fn take_apart",
-        "fn sink_decode",
-        "fn answer_summary",
-        "fn sorted",
-        "fn take_request",
-        "fn flatten_request",
-        "fn shape_for",
-    ] {
-        assert!(always.contains(&name), "{name}");
+    assert_eq!(with("#[inline(never)]"), WHOLE);
+    let always = with("#[inline(always)]");
+    for path in PUT_IN.into_iter().chain(["lists::shape_for"]) {
+        assert!(always.contains(&path), "{path}: {always:?}");
     }
 }
 

@@ -20,10 +20,7 @@ fn refused(text: &str, line: usize, why: &str) {
 #[test]
 fn unknown_items() {
     for item in [
-        "trait T {}\n",
         "static X: u8 = 0;\n",
-        "type A = u8;\n",
-        "pub type A = u8;\n",
         "macro_rules! m { () => {} }\n",
         "union U { a: u8 }\n",
         "unsafe fn f() {}\n",
@@ -34,8 +31,8 @@ fn unknown_items() {
         "extern \"system\" fn f() {}\n",
         "pub mod a;\n",
         "pub(super) fn f() {}\n",
-        "ghost fn f() {}\n",
-        "ghost struct S;\n",
+        "pub impl A {}\n",
+        "pub ghost a = { b };\n",
         "invariant { a }\n",
         "lemma a: b\n",
         "/* a */\n",
@@ -46,7 +43,14 @@ fn unknown_items() {
         refused(&format!("fn g() {{}}\n\n{item}"), 5, "an unknown item");
         if !item.starts_with('}') {
             refused(&format!("impl T {{\n{item}}}\n"), 4, "an unknown item");
+            refused(&format!("trait T {{\n{item}}}\n"), 4, "an unknown item");
         }
+    }
+    // Known in a block alone, in another form.
+    let member = "an unknown form of ghost member";
+    for item in ["ghost fn f() {}\n", "ghost struct S;\n"] {
+        refused(item, 3, "an unknown item");
+        refused(&format!("impl T {{\n{item}}}\n"), 4, member);
     }
     refused("mod a { }\n", 3, "an unknown form of module");
     refused("mod a; // Why.\n", 3, "an unknown form of module");
@@ -57,8 +61,7 @@ fn unknown_items() {
 fn unknown_attributes() {
     for attribute in [
         "#[inline]",
-        "#[derive(Clone)]",
-        "#[derive(Clone, Copy, Debug)]",
+        "#[derive_where(Debug; T)]",
         "#[repr(u8)]",
         "#[repr(C, packed)]",
         "#[cfg(test)]",
@@ -70,11 +73,28 @@ fn unknown_attributes() {
     }
     let derive = "a derive without its type";
     refused("#[derive(Clone, Copy)]\nfn f() {}\n", 3, derive);
+    refused("#[derive(Clone)]\ntype A = u8;\n", 3, derive);
+    refused("#[derive(Clone)]\n#[derive(Copy)]\nstruct S;\n", 3, derive);
+    refused("#[derive(Clone)]\n// Why.\nstruct S;\n", 3, derive);
+    let unknown = "an unknown derive";
+    refused("#[derive(Drop)]\nstruct S;\n", 3, unknown);
+    refused("#[derive(Clone, Other)]\nstruct S;\n", 3, unknown);
+    refused("#[derive()]\nstruct S;\n", 3, unknown);
+    refused(
+        "#[derive(Clone, // Why.\n    Copy)]\nstruct S;\n",
+        3,
+        unknown,
+    );
     refused("#[derive(Clone, Copy)]\n\nstruct S;\n", 3, derive);
     let end = "an attribute does not end with its line";
     refused("#[tactic(auto)] // Why.\nfn f() {}\n", 3, end);
     refused("#[tactic(auto)] fn f() {}\n", 3, end);
-    refused("#[tactic(auto,\n    using(a))]\nfn f() {}\n", 3, end);
+    refused("#[derive(Clone)] struct S;\n", 3, end);
+    refused("#[derive(Clone\nstruct S(A);\n", 3, end);
+    refused("#[tactic(auto,\nusing(a))]\nfn f() {}\n", 3, end);
+    refused("#[tactic(\n    auto, // Why.\n)]\nfn f() {}\n", 3, end);
+    refused("#[tactic(auto,\n    using(a)]\nfn f() {}\n", 3, end);
+    refused("#[tactic(auto,\n\n    using(a))]\nfn f() {}\n", 3, end);
     refused("#![tactic(auto)] use a;\n", 3, end);
     refused(
         "fn f() {\n    #[allow(x)]\n    g();\n}\n",
@@ -115,7 +135,23 @@ fn ghost_text_elsewhere() {
         4,
         ghost,
     );
-    refused("struct S {\n    ghost a: u8,\n}\n", 4, ghost);
+    refused("fn f<T: Drop>() {}\n", 3, ghost);
+    // Behind the head of a closure, and on a line of its own.
+    refused(
+        "fn f() {\n    let a = |x: u8| requires { b } { x };\n}\n",
+        4,
+        ghost,
+    );
+    refused(
+        "fn f() {\n    let a = b | c\n        requires { d }\n    { x };\n}\n",
+        5,
+        ghost,
+    );
+    refused(
+        "fn f() {\n    let a = |x| -> u8\n        decreases { b }\n    { x };\n}\n",
+        5,
+        ghost,
+    );
     refused("const A: u8 = ghost;\n", 3, ghost);
     refused("use proof::a;\n", 3, ghost);
     let proved = "a proved condition is no line of its own";
@@ -124,12 +160,16 @@ fn ghost_text_elsewhere() {
         "prove!(b); x();",
         "prove!(b)",
         "prove!(b); // Why.",
-        "prove!(\n        b,\n    );",
+        "prove!(\n    b,\n    );",
+        "prove!(\n        b, // Why.\n    );",
+        "prove!(\n        b,\n    ); x();",
         "x(); prove!(b);",
     ] {
         refused(&format!("fn f() {{\n    {text}\n}}\n"), 4, proved);
     }
     refused("const A: () = prove!(b);\n", 3, proved);
+    refused("const _: () = prove!(b); use c;\n", 3, proved);
+    refused("const _: () = prove!(b;\nuse c);\n", 3, proved);
     refused("fn f() {\n    prove! (b);\n}\n", 4, "a macro");
 }
 
@@ -137,27 +177,16 @@ fn ghost_text_elsewhere() {
 fn unknown_signs() {
     let sign = "a sign that is not known in code";
     for text in [
-        "\"a\"",
-        "'a'",
-        "b\"a\"",
-        "'a: loop {}",
-        "a?",
-        "a ≤ b",
-        "é",
-        "a\u{a0}b",
-        "/* a */",
-        "a ~ b",
-        "r#a",
-        "`a`",
-        "$a",
-        "a @ b",
+        "\"a\n\"", "\"a\\n\"", "'\\n'", "'+", "a ≤ b", "é", "a\u{a0}b", "/* a */", "a ~ b", "r#a",
+        "`a`", "$a", "a @ b",
     ] {
         refused(&format!("fn f() {{\n    {text}\n}}\n"), 4, sign);
     }
-    refused("const A: char = 'a';\n", 3, sign);
-    refused("struct S<'a> {\n    a: u8,\n}\n", 3, sign);
+    refused("const A: char = 'é';\n", 3, sign);
     refused("fn f(a: \u{2003}u8) {}\n", 3, sign);
     refused("fn f() {\n    panic!()\n}\n", 4, "a macro");
+    refused("fn f() {\n    matches![a, b]\n}\n", 4, "a macro");
+    refused("fn f() {\n    println!(out; a)\n}\n", 4, "a macro");
     refused("const A: u8 = m![1];\n", 3, "a macro");
     refused("use crate ::a;\n", 3, "an unknown form of path");
 }
@@ -176,10 +205,26 @@ fn unknown_clauses() {
     refused("fn f()\n    ensures { a\n    }\n{ 1 }\n", 4, open);
     refused("fn f()\n    ensures { a } { 1 }\n", 4, open);
     // A clause goes on in lines that are indented more, up to its own brace.
-    refused("fn f()\n    ensures { a\n        }\n        b\n{ 1 }\n", 4, open);
+    refused(
+        "fn f()\n    ensures { a\n        }\n        b\n{ 1 }\n",
+        4,
+        open,
+    );
     refused("fn f()\n    ensures { a }\n        { 1 }\n", 4, open);
     refused("fn f()\n    ensures { a {\n        b }\n{ 1 }\n", 4, open);
     refused("fn f()\n    ensures { a\n\n        b }\n{ 1 }\n", 4, open);
+    // In a trait a semicolon ends the function, and nothing else does.
+    refused(
+        "trait T {\n    fn f()\n        ensures { a }; fn g();\n}\n",
+        5,
+        open,
+    );
+    refused("fn f()\n    ensures { a };\n", 4, open);
+    refused(
+        "fn f()\n    ensures* a { b }\n{}\n",
+        4,
+        "an unknown form of clause",
+    );
     refused(
         "fn f()\n    ensures { a // }\n        b }\n{ 1 }\n",
         4,
@@ -206,11 +251,27 @@ fn unknown_clauses() {
 #[test]
 fn unknown_signatures() {
     let signature = "an unknown form of signature";
-    refused("fn f() -> (u8, u8) {}\n", 3, signature);
-    refused("fn f() -> A<u8> {}\n", 3, signature);
-    refused("fn f(a: (u8, u8)) {}\n", 3, signature);
+    refused("fn f() -> A | B {}\n", 3, signature);
+    refused("fn f() -> u8 % {}\n", 3, signature);
     refused("fn f() // Why.\n{}\n", 3, signature);
-    refused("fn f();\n\nfn g() {}\n", 5, signature);
+    refused(
+        "fn f()\n    ensures { a }\nwhere\n    T: A,\n{}\n",
+        5,
+        signature,
+    );
+    let body = "a function has no body";
+    refused("fn f();\n\nfn g() {}\n", 3, body);
+    refused("impl T {\n    fn f();\n}\n", 4, body);
+    refused("fn f()\n    ensures { a }\n;\n", 5, body);
+    let comment = "a comment that is of no clause";
+    refused("fn f()\n    // Why.\n{}\n", 3, comment);
+    refused("fn f()\n    ensures { a }\n    // Why.\n{}\n", 4, comment);
+    refused(
+        "fn f()\n    // Why.\n    b\n    ensures { a }\n{}\n",
+        3,
+        comment,
+    );
+    refused("fn f() {} fn g() {}\n", 3, "a function behind code");
     // The body that a clause without braces would take away.
     refused(
         "fn f() -> u8\n    ensures a { 1 }\n\nfn g() {}\n",
@@ -229,6 +290,11 @@ fn no_end() {
     refused("struct S\n", 3, "a type has no end");
     refused("fn f()\n", 4, "a function has no body");
     refused("fn f\n", 3, "something is missing at the end");
+    refused("fn f<T\n", 3, "something is missing at the end");
+    refused("fn f<T>(a: u8\n", 3, "something is missing at the end");
+    refused("impl T\n", 3, "something is missing at the end");
+    refused("trait T\n", 3, "something is missing at the end");
+    refused("trait T {\n    fn f();\n", 5, "a block has no end");
     let ghost = "a ghost use does not end with its line";
     refused("ghost use a.b\nuse c;\n", 3, ghost);
     refused("ghost use a.b; // Why.\nuse c;\n", 3, ghost);
@@ -259,4 +325,66 @@ fn a_file_without_a_head() {
             "{said}"
         );
     }
+}
+
+/// A ghost member ends where its braces do, and nothing stands behind it.
+#[test]
+fn unknown_ghost_members() {
+    let member = "an unknown form of ghost member";
+    for text in [
+        "ghost a = b;",
+        "ghost a;",
+        "ghost a = { b }",
+        "ghost a = { b },",
+        "ghost a = { b; };};",
+        "ghost a = { b }; fn f() {}",
+        "ghost a = { b } = { c };",
+        "ghost a: { b } = c;",
+        "ghost a: { b } { c };",
+        "ghost = { b };",
+        "ghost a b = { c };",
+        "ghost a = {\n    b\n};",
+        "ghost a = { (b };",
+        "ghost a = { b\n\n        c };",
+        "ghost fn a() {}",
+    ] {
+        refused(&format!("impl T {{\n    {text}\n}}\n"), 4, member);
+        refused(&format!("trait T {{\n    {text}\n}}\n"), 4, member);
+    }
+    for text in [
+        "ghost a: u8,",
+        "ghost a: { b };",
+        "ghost a: { b }",
+        "pub ghost a: { b\n    c },",
+        "ghost a: { b }, c: u8,",
+    ] {
+        refused(&format!("struct S {{\n    {text}\n}}\n"), 4, member);
+    }
+    let comment = "a comment in ghost text";
+    refused("impl T {\n    ghost a = { b }; // Why.\n}\n", 4, comment);
+    refused(
+        "impl T {\n    ghost a = {\n        b -- c }\n    };\n}\n",
+        4,
+        comment,
+    );
+    refused(
+        "struct S { ghost a: { b }, }\n",
+        3,
+        "ghost text behind code",
+    );
+    refused("ghost a = { b };\n", 3, "an unknown item");
+    let model = "an unknown form of model";
+    refused("impl Model for T {\n    fn f() {}\n}\n", 3, model);
+    refused(
+        "impl Model for T {\n    ghost a = { b }\nfn f() {}\n",
+        3,
+        model,
+    );
+    refused("impl Model for T {\n    ghost a = { (b };\n}\n", 3, model);
+    refused("impl Model for T {} fn f() {}\n", 3, model);
+    let marker = "an unknown marker";
+    refused("use std::marker::Brand;\n", 3, marker);
+    refused("use std::marker::{Brand, Model};\n", 3, marker);
+    refused("pub use std::marker::Model;\n", 3, marker);
+    refused("use std::marker::Model; use a;\n", 3, marker);
 }

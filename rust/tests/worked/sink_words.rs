@@ -1,8 +1,8 @@
 //! One word of a sink: the object it says, the word that an object makes, and what a word says for either side.
 
 use crate::making::{self, avs, needs};
-use arinduleu::objects::{decode_for, reserved_bit_set, Decoded, Encoded, Object, Side};
-use arinduleu::sinks::{sink_decode, sink_encode, SinkDecoded, SinkObject};
+use arinduleu::objects::{decode_for, reserved_bit_set, Object, Side};
+use arinduleu::sinks::{sink_decode, sink_encode, SinkObject};
 
 /// Each kind twice: fields that all differ, and every bit below the kind set, reserved or not. Bits 22..20 of a fixed word and 27 of a PPS one
 /// are no field of a sink.
@@ -26,7 +26,7 @@ const DECODED: [(&str, u32, SinkObject); 10] = [
 #[test]
 fn sink_words_decoded() {
     for (name, word, object) in DECODED {
-        assert_eq!(sink_decode(word), SinkDecoded::Known(object), "{name}");
+        assert_eq!(sink_decode(word), Some(object), "{name}");
     }
 }
 
@@ -36,8 +36,8 @@ fn kinds_that_no_sink_has() {
     for kind in [0xD, 0xE, 0xF] {
         for rest in [0, 0x0004_B12C, 0x0FFF_FFFF] {
             let word = kind << 28 | rest;
-            assert_eq!(sink_decode(word), SinkDecoded::NotAllowed, "{word:08X}");
-            assert_eq!(decode_for(Side::Sink, word), Decoded::NotAllowed);
+            assert_eq!(sink_decode(word), None, "{word:08X}");
+            assert_eq!(decode_for(Side::Sink, word), None);
         }
     }
 }
@@ -54,14 +54,14 @@ fn words_decoded_for_a_side() {
     for (name, word, object) in rows {
         for side in [Side::Source, Side::Sink] {
             let said = decode_for(side, word);
-            assert_eq!(said, Decoded::Known(object), "{name}, {side:?}");
+            assert_eq!(said, Some(object), "{name}, {side:?}");
         }
     }
-    let known = Decoded::Known(avs(2, 267, 200));
+    let known = Some(avs(2, 267, 200));
     assert_eq!(decode_for(Side::Source, 0xE8042CC8), known);
-    assert_eq!(decode_for(Side::Sink, 0xE8042CC8), Decoded::NotAllowed);
+    assert_eq!(decode_for(Side::Sink, 0xE8042CC8), None);
     for word in [0xD0000000, 0xF0000000] {
-        assert_eq!(decode_for(Side::Source, word), Decoded::NotAllowed);
+        assert_eq!(decode_for(Side::Source, word), None);
     }
 }
 
@@ -108,7 +108,7 @@ const ENCODED: [(&str, SinkObject, u32); 4] = [
 #[test]
 fn sink_objects_encoded() {
     for (name, object, word) in ENCODED {
-        assert_eq!(sink_encode(object), Encoded::Word(word), "{name}");
+        assert_eq!(sink_encode(object), Some(word), "{name}");
     }
 }
 
@@ -132,7 +132,7 @@ const EDGES: [(&str, SinkObject, u32, SinkObject); 12] = [
 #[test]
 fn widths_of_sink_fields() {
     for (name, largest, word, wider) in EDGES {
-        assert_eq!(sink_encode(largest), Encoded::Word(word), "{name}: largest");
-        assert_eq!(sink_encode(wider), Encoded::TooWide, "{name}: wider");
+        assert_eq!(sink_encode(largest), Some(word), "{name}: largest");
+        assert_eq!(sink_encode(wider), None, "{name}: wider");
     }
 }

@@ -6,11 +6,8 @@ use arinduleu::steps::*;
 const NO: u32 = 65536;
 
 macro_rules! figure {
-    ($answer:ident, $call:expr) => {
-        match $call {
-            $answer::Exact(figure) => u32::from(figure.0),
-            $answer::Refused => NO,
-        }
+    ($call:expr) => {
+        $call.map_or(NO, |figure| u32::from(figure.0))
     };
 }
 
@@ -52,35 +49,35 @@ const VOLTAGES: [(&str, u16, [u32; 4]); 21] = [
 fn from_mv20(x: Mv20) -> [u32; 4] {
     [
         u32::from(x.0),
-        figure!(InMv25, x.to_mv25()),
-        figure!(InMv50, x.to_mv50()),
-        figure!(InMv100, x.to_mv100()),
+        figure!(x.to_mv25()),
+        figure!(x.to_mv50()),
+        figure!(x.to_mv100()),
     ]
 }
 
 fn from_mv25(x: Mv25) -> [u32; 4] {
     [
-        figure!(InMv20, x.to_mv20()),
+        figure!(x.to_mv20()),
         u32::from(x.0),
-        figure!(InMv50, x.to_mv50()),
-        figure!(InMv100, x.to_mv100()),
+        figure!(x.to_mv50()),
+        figure!(x.to_mv100()),
     ]
 }
 
 fn from_mv50(x: Mv50) -> [u32; 4] {
     [
-        figure!(InMv20, x.to_mv20()),
-        figure!(InMv25, x.to_mv25()),
+        figure!(x.to_mv20()),
+        figure!(x.to_mv25()),
         u32::from(x.0),
-        figure!(InMv100, x.to_mv100()),
+        figure!(x.to_mv100()),
     ]
 }
 
 fn from_mv100(x: Mv100) -> [u32; 4] {
     [
-        figure!(InMv20, x.to_mv20()),
-        figure!(InMv25, x.to_mv25()),
-        figure!(InMv50, x.to_mv50()),
+        figure!(x.to_mv20()),
+        figure!(x.to_mv25()),
+        figure!(x.to_mv50()),
         u32::from(x.0),
     ]
 }
@@ -120,11 +117,11 @@ fn currents_converted() {
     for (name, step, [in_10, in_50]) in CURRENTS {
         match step {
             10 => {
-                let got = figure!(InMa50, Ma10(given(in_10)).to_ma50());
+                let got = figure!(Ma10(given(in_10)).to_ma50());
                 assert_eq!(got, in_50, "{name}");
             }
             50 => {
-                let got = figure!(InMa10, Ma50(given(in_50)).to_ma10());
+                let got = figure!(Ma50(given(in_50)).to_ma10());
                 assert_eq!(got, in_10, "{name}");
             }
             _ => panic!("{name}: no step of {step} mA"),

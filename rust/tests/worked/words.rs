@@ -1,9 +1,7 @@
 //! One word: the object it says, its reserved bits, and the word that an object makes.
 
 use crate::making::{avs, battery, fixed, pps, variable};
-use arinduleu::objects::{
-    decode, encode, is_kind, reserved_bit_set, Decoded, Encoded, Object, Side,
-};
+use arinduleu::objects::{decode, encode, is_kind, reserved_bit_set, Object, Side};
 
 /// Each kind twice: fields that all differ, and every bit below the kind set, so that a field that took a bit too many
 /// or too few would show.
@@ -29,7 +27,7 @@ const DECODED: [(&str, u32, Object); 11] = [
 #[test]
 fn words_decoded() {
     for (name, word, object) in DECODED {
-        assert_eq!(decode(word), Decoded::Known(object), "{name}");
+        assert_eq!(decode(word), Some(object), "{name}");
     }
 }
 
@@ -43,8 +41,8 @@ const NOT_ALLOWED: [(&str, u32, u32); 2] = [
 #[test]
 fn kinds_not_allowed() {
     for (name, lowest, highest) in NOT_ALLOWED {
-        assert_eq!(decode(lowest), Decoded::NotAllowed, "{name}: lowest");
-        assert_eq!(decode(highest), Decoded::NotAllowed, "{name}: highest");
+        assert_eq!(decode(lowest), None, "{name}: lowest");
+        assert_eq!(decode(highest), None, "{name}: highest");
     }
 }
 
@@ -108,7 +106,7 @@ const ENCODED: [(&str, Object, u32); 5] = [
 #[test]
 fn objects_encoded() {
     for (name, object, word) in ENCODED {
-        assert_eq!(encode(object), Encoded::Word(word), "{name}");
+        assert_eq!(encode(object), Some(word), "{name}");
     }
 }
 
@@ -137,7 +135,7 @@ const EDGES: [(&str, Object, u32, Object); 17] = [
 #[test]
 fn widths_of_fields() {
     for (name, largest, word, wider) in EDGES {
-        assert_eq!(encode(largest), Encoded::Word(word), "{name}: largest");
-        assert_eq!(encode(wider), Encoded::TooWide, "{name}: wider");
+        assert_eq!(encode(largest), Some(word), "{name}: largest");
+        assert_eq!(encode(wider), None, "{name}: wider");
     }
 }

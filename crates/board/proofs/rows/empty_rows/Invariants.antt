@@ -1,11 +1,7 @@
 -- The first i rows are emptied.
 use mathlib.Core.Path.{◌≡◌}
-use Prim.Native.Nat.{◌-◌, ◌≤◌}
 use Rattle.board.specs.Rows.{emptied_to}
 use Rattle.board.proofs.rows.empty_rows.Given as goal
 
 abbrev pub invariant-loop-i : goal.invariant-loop-i
-invariant-loop-i l = (l.i ≤ l.n) × (l.rows ≡ emptied_to l.i l.fn.rows)
-
-abbrev pub decreases-loop-i : goal.decreases-loop-i
-decreases-loop-i l = l.n - l.i
+invariant-loop-i l = l.rows ≡ emptied_to l.i l.fn.rows

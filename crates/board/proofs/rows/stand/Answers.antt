@@ -33,52 +33,31 @@ module _ (fresh : Bool) (capacity : ℕ) (ys : List Row) (k : ℕ) (s : Standing
   ended : k ≤ length ys → (r : Bool) → r ≡ goes_on s k → r ≡ false → s ≡ standing_of fresh capacity ys
   ended l r g f = is ∙ stops_for_good fresh capacity ys k l (subst (λ (x : Standing). goes_on x k ≡ false) is (sym g ∙ f))
 
-pub loop-row-init : goal.loop-row-init
-loop-row-init c = (omega arith, c.begin-standing.ensures ∙ none_judged c.args.fresh c.args.capacity.0 c.args.rows.now)
+pub loop-i-init : goal.loop-i-init
+loop-i-init c = c.begin-standing.ensures ∙ none_judged c.args.fresh c.args.capacity.0 c.args.rows.now
 
-pub offset_bounds-rows-judged : goal.offset_bounds-rows-judged
-offset_bounds-rows-judged c =
+pub overflow_cast-i : goal.overflow_cast-i
+overflow_cast-i c =
     let a = c.args in
-    let l = c.loop-row in
-    let h = inside a.fresh a.capacity.0 a.rows.now l.judged l.standing l.invariant.1 _ c.goes_on.ensures c.loop-row-test.true in
+    let l = c.loop-i in
+    let h = inside a.fresh a.capacity.0 a.rows.now l.i l.standing l.invariant _ c.goes_on.ensures c.if-not-goes_on.false in
     record { fits = omega (arith, h) }
 
-pub bounds-rows-judged : goal.bounds-rows-judged
-bounds-rows-judged c =
+pub overflow_add-i : goal.overflow_add-i
+overflow_add-i c =
     let a = c.args in
-    let l = c.loop-row in
-    (inside a.fresh a.capacity.0 a.rows.now l.judged l.standing l.invariant.1 _ c.goes_on.ensures c.loop-row-test.true).0
-
-pub overflow_add-judged : goal.overflow_add-judged
-overflow_add-judged c =
-    let a = c.args in
-    let l = c.loop-row in
-    let h = inside a.fresh a.capacity.0 a.rows.now l.judged l.standing l.invariant.1 _ c.goes_on.ensures c.loop-row-test.true in
+    let l = c.loop-i in
+    let h = inside a.fresh a.capacity.0 a.rows.now l.i l.standing l.invariant _ c.goes_on.ensures c.if-not-goes_on.false in
     record { fits = omega (arith, h) }
 
-pub overflow_cast-judged : goal.overflow_cast-judged
-overflow_cast-judged c =
+pub loop-i-preserved : goal.loop-i-preserved
+loop-i-preserved c =
     let a = c.args in
-    let l = c.loop-row in
-    let h = inside a.fresh a.capacity.0 a.rows.now l.judged l.standing l.invariant.1 _ c.goes_on.ensures c.loop-row-test.true in
-    record { fits = omega (arith, h) }
+    let l = c.loop-i in
+    c.take_row-standing.ensures ∙ next a.fresh a.capacity.0 a.rows.now l.i l.standing l.invariant
 
-pub loop-row-smaller : goal.loop-row-smaller
-loop-row-smaller c =
+pub returns-then-not-goes_on : goal.returns-then-not-goes_on
+returns-then-not-goes_on c =
     let a = c.args in
-    let l = c.loop-row in
-    let h = inside a.fresh a.capacity.0 a.rows.now l.judged l.standing l.invariant.1 _ c.goes_on.ensures c.loop-row-test.true in
-    omega (arith, h)
-
-pub loop-row-preserved : goal.loop-row-preserved
-loop-row-preserved c =
-    let a = c.args in
-    let l = c.loop-row in
-    let h = inside a.fresh a.capacity.0 a.rows.now l.judged l.standing l.invariant.1 _ c.goes_on.ensures c.loop-row-test.true in
-    (omega (arith, h), c.take_row-standing.ensures ∙ next a.fresh a.capacity.0 a.rows.now l.judged l.standing l.invariant.1)
-
-pub returns : goal.returns
-returns c =
-    let a = c.args in
-    let l = c.loop-row in
-    ended a.fresh a.capacity.0 a.rows.now l.judged l.standing l.invariant.1 l.invariant.0 _ c.goes_on.ensures c.loop-row-test.false
+    let l = c.loop-i in
+    ended a.fresh a.capacity.0 a.rows.now l.i l.standing l.invariant (omega arith) _ c.goes_on.ensures c.if-not-goes_on.true

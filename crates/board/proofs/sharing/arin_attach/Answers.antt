@@ -1,16 +1,20 @@
 -- `board::sharing::arin_attach` meets its contract: what `ports` decides by value is what is answered and written.
 -- Assumes nothing.
+use Rattle.std.proofs.Common.{rules}
+use mathlib.Core.Path.{◌≡◌}
+use mathlib.Core.Bool.{false}
+use Rattle.ports.specs.Rows.{row_of}
+use Rattle.ports.specs.Standing.{standing_of, place_of}
 use Rattle.ports.specs.Deciding.{attach_change, offer_of}
-use Rattle.ports.specs.Lending.{attach_answer, attach_rows}
 use Rattle.ports.proofs.Said.{attach_said}
 use Rattle.board.proofs.Shared.{shared}
 use Rattle.board.proofs.sharing.arin_attach.Goals as goal
 
 pub returns : goal.returns
 returns c =
-    let ys = c.args.rows.now in
-    let capacity = c.args.capacity in
-    let port = c.args.port in
-    shared ys capacity port (λ s y. attach_change capacity s y port c.args.cable) offer_of (attach_answer capacity ys port c.args.cable) (attach_rows capacity ys port c.args.cable) (attach_said ys capacity port c.args.cable)
-    c.stand-standing.result c.stand-standing.ensures c.row_of-row.result c.row_of-row.ensures c.attach-change.result c.attach-change.ensures
-    c.offer.result c.offer.ensures c.put_row.new.rows c.put_row.ensures
+    let x = c.args in
+    let ys = x.rows.now in
+    let s = standing_of false x.capacity ys in
+    let d = attach_change x.capacity s (row_of ys (place_of s x.port)) x.port x.cable in
+    let decided : c.share-change.result ≡ d = search rules in
+    shared ys offer_of d (attach_said ys x.capacity x.port x.cable) _ decided _ c.share-change.ensures.written _ c.offer.ensures

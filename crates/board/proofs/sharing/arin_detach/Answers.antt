@@ -1,18 +1,21 @@
 -- `board::sharing::arin_detach` meets its contract: what `ports` decides by value is what is answered and written.
 -- Assumes nothing.
-use mathlib.Core.Path.{refl}
+use Rattle.std.proofs.Common.{rules}
+use mathlib.Core.Path.{◌≡◌, refl}
+use mathlib.Core.Bool.{false}
 use Rattle.ports.specs.declared.Change.{Change}
+use Rattle.ports.specs.Rows.{row_of}
+use Rattle.ports.specs.Standing.{standing_of, place_of}
 use Rattle.ports.specs.Deciding.{detach_change}
-use Rattle.ports.specs.Lending.{detach_answer, detach_rows}
 use Rattle.ports.proofs.Said.{detach_said}
 use Rattle.board.proofs.Shared.{shared}
 use Rattle.board.proofs.sharing.arin_detach.Goals as goal
 
 pub returns : goal.returns
 returns c =
-    let ys = c.args.rows.now in
-    let capacity = c.args.capacity in
-    let port = c.args.port in
-    shared ys capacity port (λ s y. detach_change capacity s y port) (λ (d : Change). d.answer) (detach_answer capacity ys port) (detach_rows capacity ys port) (detach_said ys capacity port)
-    c.stand-standing.result c.stand-standing.ensures c.row_of-row.result c.row_of-row.ensures c.detach-change.result c.detach-change.ensures
-    _ refl c.put_row.new.rows c.put_row.ensures
+    let x = c.args in
+    let ys = x.rows.now in
+    let s = standing_of false x.capacity ys in
+    let d = detach_change x.capacity s (row_of ys (place_of s x.port)) x.port in
+    let decided : c.share-change.result ≡ d = search rules in
+    shared ys (λ (e : Change). e.answer) d (detach_said ys x.capacity x.port) _ decided _ c.share-change.ensures.written _ refl

@@ -15,13 +15,13 @@ use Rattle.flat.proofs.reading.flat_read_for.Goals as goal
 abbrev reading : Verdict → FlatObjects → FlatReading
 reading v f = record { verdict = v; list = f }
 
-pub flatten_words-flat-requires : goal.flatten_words-flat-requires
-flatten_words-flat-requires c = subst (λ (s : Shaped). s.count ≤ 7) (sym c.readable-shaped.ensures) (shaped_count _ _)
+pub flatten_words-requires : goal.flatten_words-requires
+flatten_words-requires c = subst (λ (s : Shaped). s.count ≤ 7) (sym c.readable-shaped.ensures) (shaped_count _ _)
 
 pub returns : goal.returns
 unfolding flat_reading_for
 returns c =
     let l = c.args.list in
-    ap (reading c.readable-shaped.result.verdict) c.flatten_words-flat.ensures
+    ap (reading c.readable-shaped.result.verdict) c.flatten_words.ensures
     ∙ ap (λ (s : Shaped). reading s.verdict (flat_objects (objects_to l.words s.count))) c.readable-shaped.ensures
     ∙ ap flat_reading (read_shaped _ l)

@@ -8,6 +8,6 @@ use Rattle.lists.specs.Reading.{object_of}
 use Rattle.flat.specs.Flat.{flat_of}
 use Rattle.flat.proofs.reading.flat_word.Goals as goal
 
-pub returns-in_default : goal.returns-in_default
+pub returns-in-None : goal.returns-in-None
 unfolding flat_of
-returns-in_default c = sym (ap (λ (d : Option Object). flat_of (object_of d)) (sym (decoded_is _ _ c.decode-d.ensures) ∙ c.in_default.is))
+returns-in-None c = sym (ap (λ (d : Option Object). flat_of (object_of d)) (sym (decoded_is _ _ c.decode.ensures) ∙ c.in-None.is))

@@ -14,8 +14,8 @@ use Rattle.flat.proofs.writing.encode_flat.Goals as goal
 abbrev said : Option Object → ℕ × ℕ
 said r = encoded_says (encoded_raised r)
 
-pub returns : goal.returns
-returns c =
+pub returns-in-Some : goal.returns-in-Some
+returns-in-Some c =
     c.encode.ensures
     ∙ object_says_lem c.in-Some.object
-    ∙ ap said (sym c.in-Some.is ∙ raised_one _ (raised_for c.args.side c.args.flat) c.raise_for-raised.ensures)
+    ∙ ap said (sym c.in-Some.is ∙ raised_one _ (raised_for c.args.side c.args.flat) c.raise_for.ensures)

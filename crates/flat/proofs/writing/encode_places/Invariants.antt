@@ -2,14 +2,10 @@
 -- Assumes nothing.
 use mathlib.Core.Path.{◌≡◌}
 use mathlib.Core.Bool.{false}
-use Prim.Native.Nat.{◌-◌, ◌≤◌}
 use Rattle.lists.specs.Shape.{bad_count}
 use Rattle.lists.proofs.Writings.{MadeTo}
 use Rattle.flat.specs.Writing.{encoded_flat_at}
 use Rattle.flat.proofs.writing.encode_places.Given as goal
 
 abbrev pub invariant-loop-i : goal.invariant-loop-i
-invariant-loop-i l = (l.i ≤ l.count) × (l.count ≤ 7) × (bad_count l.count ≡ false) × MadeTo (encoded_flat_at l.side l.list.places) l.i l.words
-
-abbrev pub decreases-loop-i : goal.decreases-loop-i
-decreases-loop-i l = l.count - l.i
+invariant-loop-i l = (bad_count l.count ≡ false) × MadeTo (encoded_flat_at l.side l.fn.list.places) l.i l.words

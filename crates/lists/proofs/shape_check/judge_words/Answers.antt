@@ -22,8 +22,8 @@ use Rattle.lists.proofs.shape_check.judge_words.Goals.{then-eq, else-eq}
 pub loop-i-init : goal.loop-i-init
 loop-i-init c = (
   none_yet _,
-  record { object = zero_object; first = λ e. refl; stands = λ h. absurd (omega arith); decoded = λ h. absurd (omega arith) },
-  none_seen _ _,
+  record { object = zero_object; stands = refl; decoded = λ h. absurd (omega arith) },
+  none_seen _ _ _,
 )
 
 pub returns-in_err-standing : goal.returns-in_err-standing

@@ -1,29 +1,31 @@
 -- `requests::judging::avs_limit` meets its contract: below 15.0 V, above it, and at it the larger of the two.
 -- Assumes nothing.
-use mathlib.Core.Path.{◌≡◌, sym, ◌∙◌}
-use Prim.Native.Nat.{ℕ, ◌*◌, ◌<◌, ◌≤◌, max}
+use Rattle.std.proofs.Common.{Less, Equal, Greater}
+use Rattle.std.proofs.lemmas.Cmp.{ranked}
+use mathlib.Core.Path.{◌≡◌, sym, ap, ◌∙◌}
+use Prim.Native.Nat.{ℕ, ◌*◌, max}
 use native.Mathlib.Omega.{arith}
+use Rattle.steps.specs.declared.Ma10.{Ma10}
+use Rattle.requests.proofs.Comparing.{larger}
 use Rattle.requests.proofs.AvsLimits.{limit_below, limit_above, limit_at_lem}
 use Rattle.requests.proofs.judging.avs_limit.Goals as goal
 
-larger : (a b : ℕ) → a < b → b * 10 ≡ max (a * 10) (b * 10)
-larger a b h = omega arith
+scaled : (m a b : ℕ) → m ≡ max a b → m * 10 ≡ max (a * 10) (b * 10)
+scaled m a b e = omega arith
 
-other : (a b : ℕ) → b ≤ a → a * 10 ≡ max (a * 10) (b * 10)
-other a b h = omega arith
+pub returns-in-Less : goal.returns-in-Less
+returns-in-Less c =
+    let h = ranked c.args.volts.0 600 Less c.in-Less.ensures in
+    sym (limit_below _ _ _ (omega arith))
 
-pub returns-then-volts-lt600 : goal.returns-then-volts-lt600
-returns-then-volts-lt600 c = sym (limit_below _ _ _ (omega arith))
-
-pub returns-then-volts-gt600 : goal.returns-then-volts-gt600
-returns-then-volts-gt600 c = sym (limit_above _ _ _ (omega arith))
-
-pub returns-then-low-high : goal.returns-then-low-high
-returns-then-low-high c =
+pub returns-in-Equal : goal.returns-in-Equal
+returns-in-Equal c =
     let x = c.args in
-    larger x.low.0 x.high.0 (omega arith) ∙ sym (limit_at_lem _ _ _ (omega arith))
+    let h = ranked x.volts.0 600 Equal c.in-Equal.ensures in
+    let m = ap (λ (a : Ma10). a.0) c.max.ensures ∙ larger (λ (a : Ma10). a.0) x.low x.high in
+    scaled _ x.low.0 x.high.0 m ∙ sym (limit_at_lem _ _ _ (omega arith))
 
-pub returns : goal.returns
-returns c =
-    let x = c.args in
-    other x.low.0 x.high.0 (omega arith) ∙ sym (limit_at_lem _ _ _ (omega arith))
+pub returns-in-Greater : goal.returns-in-Greater
+returns-in-Greater c =
+    let h = ranked c.args.volts.0 600 Greater c.in-Greater.ensures in
+    sym (limit_above _ _ _ (omega arith))

@@ -7,5 +7,5 @@ use Rattle.requests.proofs.judging.avs_top.Goals as goal
 pub returns-then-high-eq0 : goal.returns-then-high-eq0
 returns-then-high-eq0 c = sym (ends_at_15_V c.args.high c.if-high-eq0.true)
 
-pub returns : goal.returns
-returns c = sym (ends_at_20_V c.args.high c.if-high-eq0.false)
+pub returns-else-high-eq0 : goal.returns-else-high-eq0
+returns-else-high-eq0 c = sym (ends_at_20_V c.args.high c.if-high-eq0.false)

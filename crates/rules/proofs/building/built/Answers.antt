@@ -4,24 +4,17 @@ use Rattle.std.specs.Prelude.{Ok}
 use mathlib.Core.Path.{ap, ap₂, sym, ◌∙◌}
 use mathlib.Core.List.{List}
 use Prim.Native.Nat.{ℕ}
-use native.Mathlib.Omega.{arith}
 use Rattle.verdicts.specs.Refusals.{err}
 use Rattle.verdicts.proofs.First.{all_missed}
 use Rattle.lists.specs.declared.Words.{Words}
 use Rattle.rules.specs.Profiles.{build_refusals}
 use Rattle.rules.specs.Building.{built_words}
-use Rattle.rules.proofs.Builds.{built_count_high}
 use Rattle.rules.proofs.building.built.Goals as goal
 
 abbrev listed : List ℕ → ℕ → Words
 listed ws n = record { words = ws; count = n }
 
-pub overflow_cast-result : goal.overflow_cast-result
-overflow_cast-result c =
-    let port = c.in_ok-port.port in
-    record { fits = omega (arith, c.put_supplies-count.ensures.place, built_count_high port.profile port.within.max) }
-
 pub returns : goal.returns
 returns c =
-    ap Ok (ap₂ listed c.put_supplies-count.ensures.words c.put_supplies-count.ensures.place ∙ ap built_words c.in_ok-port.ensures.0)
+    ap Ok (ap₂ listed c.put_supplies.ensures.words c.put_supplies.ensures.place ∙ ap built_words c.in_ok-port.ensures.0)
     ∙ sym (all_missed err (Ok (built_words c.args.p)) (build_refusals c.args.p) c.in_ok-port.ensures.1)

@@ -14,8 +14,8 @@ returns-then-is_there c =
     avs_put port.profile port.within.max c.requires
     (put_so there
     (c.avs_with-word.ensures ∙ avs_beside port.profile (port_fine port) (ltb-true 54 _ there) c.requires _ _ _ c.current_in-low.ensures c.current_in-high.ensures)
-    c.put.ensures.0 c.put.ensures.1)
+    c.push.ensures.0 c.push.ensures.1)
 
-pub returns : goal.returns
-returns c =
+pub returns-else-is_there : goal.returns-else-is_there
+returns-else-is_there c =
     avs_put c.args.port.profile c.args.port.within.max c.requires (put_not (sym c.is_there.ensures ∙ c.if-is_there.false))

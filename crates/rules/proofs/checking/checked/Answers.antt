@@ -27,7 +27,3 @@ invariant_of-judged c =
     let number = went_on c.shape.result (sym c.passed.ensures ∙ c.in_ok-passed.was) in
     let shaped : (shape_of c.args.list).number ≡ 0 = ap (λ (v : Verdict). v.number) (sym c.shape.ensures) ∙ number in
     record { shaped = shaped; seven = shape_seven c.args.list shaped }
-
-pub returns : goal.returns
-returns c =
-    c.judged.ensures ∙ ap (λ (p : Profile). passed_by (check_refusals p c.args.list)) c.in_ok-port.ensures

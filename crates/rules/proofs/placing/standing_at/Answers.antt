@@ -29,6 +29,3 @@ returns-then-port-ne1 c =
     let x = c.args in
     let low = subst (λ (k : ℕ). k ≤ x.asked) c.past_avs-base.ensures c.if-asked-base.false in
     none_there x.port.profile (built_count x.port.profile) x.asked (subst (λ (k : ℕ). k ≤ x.asked) (sym (without_pps x.port.profile c.if-port-ne1.true)) low)
-
-pub past_avs-base-requires : goal.past_avs-base-requires
-past_avs-base-requires c = (c.args.port.within.max, c.past_rails-rails.ensures ∙ exceeded c.args.port.profile.max.0 rails)

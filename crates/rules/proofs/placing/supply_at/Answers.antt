@@ -5,14 +5,11 @@ use Prim.Native.Nat.{ℕ, ◌+◌, ◌≤◌}
 use native.Mathlib.Omega.{arith}
 use lib.ListN.{length}
 use Rattle.rules.specs.Tables.{slots}
-use Rattle.rules.proofs.TableWalk.{supplies_to, no_supplies, all_supplies, supply_stands, supply_on, supply_skipped}
+use Rattle.rules.proofs.TableWalk.{supplies_to, all_supplies, supply_stands, supply_on, supply_skipped}
 use Rattle.rules.proofs.PutDown.{prog_anywhere}
 use Rattle.rules.proofs.Places.{word_there, none_there, stands_at}
 use Rattle.rules.proofs.placing.supply_at.Goals as goal
 use Rattle.rules.proofs.placing.supply_at.Goals.{then-is_there+else-at-asked, else-is_there}
-
-pub loop-row-init : goal.loop-row-init
-loop-row-init c = (c.requires.0 ∙ sym (no_supplies _), c.requires.1)
 
 pub returns-then-at-asked : goal.returns-then-at-asked
 returns-then-at-asked c =
@@ -21,10 +18,6 @@ returns-then-at-asked c =
     let there = supply_stands m c.args.port.within.max c.loop-row.row-index c.loop-row-test.true (sym c.is_there.ensures ∙ c.if-is_there.true) in
     let st = stands_at m _ _ _ (sym c.loop-row.invariant.0 ∙ c.if-at-asked.true) there in
     word_there p (length (slots m)) c.args.asked _ _ st st.within (c.word.ensures ∙ prog_anywhere p _ _ _)
-
-pub overflow_add-at : goal.overflow_add-at
-overflow_add-at c =
-    record { fits = omega (arith, c.ranges.asked.fits, c.loop-row.invariant.1, c.if-at-asked.false) }
 
 pub loop-row-preserved : goal.loop-row-preserved
 loop-row-preserved c =

@@ -1,12 +1,8 @@
 -- `summaries::making::limit_words` meets its contract: the invariant is that the rows passed are filled.
 -- Assumes nothing.
 use Rattle.summaries.specs.Summaries.{rows_to}
-use Prim.Native.Nat.{◌-◌, ◌≤◌}
 use mathlib.Core.Path.{◌≡◌}
 use Rattle.summaries.proofs.making.limit_words.Given as goal
 
 abbrev pub invariant-loop-i : goal.invariant-loop-i
-invariant-loop-i l = (l.i ≤ l.count) × (l.rows ≡ rows_to l.list.words l.i)
-
-abbrev pub decreases-loop-i : goal.decreases-loop-i
-decreases-loop-i l = l.count - l.i
+invariant-loop-i l = l.rows ≡ rows_to l.list.words l.i

@@ -8,7 +8,8 @@ use Rattle.lists.proofs.Shapes.{shaped_count}
 use Rattle.lists.specs.declared.Shaped.{Shaped}
 use Rattle.objects.specs.declared.Side.TheVariants.{Source}
 use Rattle.verdicts.specs.declared.Verdict.{Verdict}
-use Prim.Native.Nat.{◌≤◌}
+use mathlib.Core.List.{List}
+use Prim.Native.Nat.{ℕ, ◌≤◌}
 use mathlib.Core.Path.{ap, sym, ◌∙◌, subst}
 use Rattle.summaries.proofs.making.summarize.Goals as goal
 
@@ -22,6 +23,6 @@ pub returns : goal.returns
 returns c =
     let l = c.args.list in
     let s = c.readable-shaped.result in
-    ap (summarized s.verdict) (c.hold-summary.ensures ∙ ap (summary_with s.count) c.limit_words-rows.ensures)
+    ap (λ (rs : List (List ℕ)). summarized s.verdict (summary_with s.count rs)) c.limit_words-rows.ensures
     ∙ ap (λ (z : Shaped). summarized z.verdict (summary_to l.words z.count)) c.readable-shaped.ensures
     ∙ summary_shaped l

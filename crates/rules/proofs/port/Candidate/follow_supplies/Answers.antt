@@ -4,15 +4,10 @@ use mathlib.Core.Path.{◌≡◌, sym, ap, ◌∙◌}
 use Prim.Native.Nat.{ℕ, ◌+◌, ◌≤◌}
 use native.Mathlib.Omega.{arith}
 use Rattle.rules.specs.Following.{followed}
-use Rattle.rules.proofs.TableWalk.{supplies_to, all_supplies, no_supplies}
+use Rattle.rules.proofs.TableWalk.{supplies_to, all_supplies}
 use Rattle.rules.proofs.Steps.{lost_on, supply_followed}
 use Rattle.rules.proofs.Places.{supplies_left}
 use Rattle.rules.proofs.port.Candidate.follow_supplies.Goals as goal
-
-pub loop-row-init : goal.loop-row-init
-loop-row-init c =
-    let s = c.args.self.now in
-    ap (followed s.port.profile s.list) (no_supplies s.port.profile.max.0) ∙ c.requires
 
 pub returns-in_err-walk : goal.returns-in_err-walk
 returns-in_err-walk c =
