@@ -1,28 +1,14 @@
--- Laws of the header: its fields and its 16 bits, both ways, and what is refused by it.
+-- Laws of the header: its fields and its 16 bits, both ways.
 -- Assumes nothing.
 use mathlib.Core.Path.{◌≡◌, refl, ap}
-use mathlib.Core.Bool.{true, and-eq-true_iff}
-use mathlib.Core.List.{List, [], ◌∷◌}
-use Prim.Native.Nat.{ℕ, ◌+◌, ◌-◌, ◌^◌, ◌<◌, ◌≤◌}
+use mathlib.Core.Bool.{true}
+use Prim.Native.Nat.{ℕ, ◌^◌, ◌<◌, ◌≤◌}
 use native.Mathlib.Omega.{arith}
-use lib.Dec.{ltb}
-use borrow.Author.Tests.{ltb-true}
-use Rattle.objects.specs.Layout.{Field, field, all_fit, joined}
+use Rattle.objects.specs.Layout.{all_fit, joined}
 use Rattle.objects.proofs.Taking.{bits_lt}
-use Rattle.objects.proofs.Putting.{Fit}
 use Rattle.objects.proofs.Rows.{retaken_fit, whole, parted, joined_lt}
 use Rattle.messages.specs.declared.Header.{Header}
 use Rattle.messages.specs.Headers.{header_of, fields_of}
-
--- what a test of all fields says of each
-fits_of : (fs : List Field) → all_fit fs ≡ true → Fit fs
-fits_of [] t = tt
-fits_of (field v hi lo ∷ fs) t =
-    let f = (and-eq-true_iff (ltb v (2 ^ (hi + 1 - lo))) (all_fit fs)).0 t in
-    (ltb-true v (2 ^ (hi + 1 - lo)) f.0, fits_of fs f.1)
-
-pub each_fits : (h : Header) → all_fit (fields_of h) ≡ true → Fit (fields_of h)
-each_fits h t = fits_of (fields_of h) t
 
 -- the fields of 16 bits fit, and make the 16 bits again
 pub taken_fit : (h : ℕ) → all_fit (fields_of (header_of h)) ≡ true

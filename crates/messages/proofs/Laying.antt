@@ -2,10 +2,10 @@
 -- Assumes nothing.
 use mathlib.Core.Path.{◌≡◌, refl, ap, ap₂, sym, ◌∙◌}
 use mathlib.Core.List.{List, ◌++◌, append_assoc}
-use Prim.Native.Nat.{ℕ, zero, suc, ◌+◌, ◌-◌, ◌*◌, ◌≤◌}
+use Prim.Native.Nat.{ℕ, zero, suc, ◌+◌, ◌-◌, ◌*◌}
 use native.Mathlib.Numerals.{add-one}
 use native.Mathlib.Omega.{arith}
-use lib.ListN.{length, take, drop, get_or, length-append, length-drop}
+use lib.ListN.{length, take, drop, get_or, length-append}
 use lib.Seq.{take_at, drop_at, drop-drop}
 use Rattle.messages.specs.LowFirst.{two_bytes, four_bytes}
 use Rattle.messages.specs.Writing.{word_bytes}
@@ -22,12 +22,6 @@ laid_to bs h ws n = (two_bytes h ++ word_bytes ws n) ++ drop (2 + 4 * n) bs
 module _ (bs : List ℕ) (h : ℕ) (ws : List ℕ) where
   pub front_length : (n : ℕ) → length (two_bytes h ++ word_bytes ws n) ≡ 2 + 4 * n
   front_length n = length-append (two_bytes h) (word_bytes ws n) ∙ ap (λ (k : ℕ). 2 + k) (word_bytes_length ws n)
-
-  pub laid_length : (n : ℕ) → 2 + 4 * n ≤ length bs → length (laid_to bs h ws n) ≡ length bs
-  laid_length n l =
-      length-append (two_bytes h ++ word_bytes ws n) (drop (2 + 4 * n) bs)
-      ∙ ap₂ (λ (a b : ℕ). a + b) (front_length n) (length-drop (2 + 4 * n) bs)
-      ∙ omega arith
 
   -- a part that is lent comes back between what is before it and what is past it: so does one word more
   pub one_word_more : (n : ℕ) (xs four : List ℕ) → xs ≡ laid_to bs h ws n → four ≡ four_bytes (get_or ws n 0)
@@ -46,11 +40,3 @@ module _ (bs : List ℕ) (h : ℕ) (ws : List ℕ) where
       ∙ sym (append_assoc front word (drop (2 + 4 * n + 4) bs))
       ∙ rw (add-one n)
       (ap₂ (λ (x : List ℕ) (k : ℕ). x ++ drop k bs) (append_assoc (two_bytes h) (word_bytes ws n) word) past-it)
-
--- after the header, whose bytes came back from a part of their own
-module _ (front past : List ℕ) (h : ℕ) (e : front ≡ two_bytes h) (ws : List ℕ) where
-  pub no_word_yet : front ++ past ≡ laid_to (front ++ past) h ws 0
-  no_word_yet = rw e refl
-
-  pub after_header : (n : ℕ) → laid_to (front ++ past) h ws n ≡ (two_bytes h ++ word_bytes ws n) ++ drop (4 * n) past
-  after_header n = ap (λ (l : List ℕ). (two_bytes h ++ word_bytes ws n) ++ l) (sym (drop-drop (4 * n) 2 (front ++ past)) ∙ rw e refl)

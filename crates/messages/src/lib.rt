@@ -26,7 +26,7 @@ pub const REQUEST: u8 = 2;
 // No message is longer: two bytes of header and seven words. A buffer of this length holds each.
 pub const LONGEST_MESSAGE: usize = 30;
 
-// The header of a message, field by field.
+// The header of a message, field by field. Numbers, and no enum or bool: C hands them in, and one that is too wide for its bits is refused.
 #[repr(C)]
 #[derive(Clone, Copy)]
 pub struct Header {

@@ -1,12 +1,12 @@
 -- A figure is above a quotient rounded down exactly when its product with the divisor is above the numerator.
 -- Assumes nothing.
-use mathlib.Core.Path.{◌≡◌, refl, sym, ap, ap₂, ◌∙◌}
-use mathlib.Core.Bool.{Bool, true, false, cond, ◌&&◌, and-false}
+use mathlib.Core.Path.{◌≡◌, refl, sym, ◌∙◌}
+use mathlib.Core.Bool.{Bool, true, false, cond}
 use Prim.Native.Nat.{ℕ, zero, suc, ◌*◌, ◌<◌}
 use native.Mathlib.Nat.{mul_comm, mul_assoc, mul-le-mul_right, le_trans}
 use native.Mathlib.Omega.{arith}
-use lib.Dec.{ltb, eqb}
-use borrow.Author.Tests.{lt-ltb, le-ltb, ltb-true, ltb-false, eq-eqb, ne_eqb}
+use lib.Dec.{ltb}
+use borrow.Author.Tests.{lt-ltb, le-ltb, ltb-true, ltb-false}
 use Rattle.steps.specs.Rounding.{down_of}
 use Rattle.steps.proofs.RoundingLaws.{down_under, down_greatest}
 use Rattle.sinks.specs.Rating.{above_quotient, is_range, pps_above, divided_by}
@@ -53,13 +53,3 @@ by_tenths rating max min a = first (is_range max min 110 50) where
       ≡ above_quotient (100 * rating) (cond b 90 (cond (is_range max min 160 50) 150 (cond (is_range max min 210 50) 200 max))) a
   first true = tenfold rating 9 a
   first false = second (is_range max min 160 50)
-
--- no range where the minimum, or the maximum, is another
-pub not_from : (max min top : ℕ) → (min ≡ 50 → ⊥) → is_range max min top 50 ≡ false
-not_from max min top f = ap (λ (b : Bool). eqb max top && b) (ne_eqb min 50 f) ∙ and-false (eqb max top)
-
-pub is_to : (max min top : ℕ) → max ≡ top → min ≡ 50 → is_range max min top 50 ≡ true
-is_to max min top e f = ap₂ ◌&&◌ (eq-eqb max top e) (eq-eqb min 50 f)
-
-pub not_to : (max min top : ℕ) → (max ≡ top → ⊥) → is_range max min top 50 ≡ false
-not_to max min top f = ap (λ (b : Bool). b && eqb min 50) (ne_eqb max top f)
