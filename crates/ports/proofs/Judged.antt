@@ -8,8 +8,8 @@ use Prim.Native.Nat.{ℕ}
 use lib.Dec.{eqb}
 use borrow.Author.Tests.{ne_eqb}
 use Rattle.verdicts.specs.declared.Verdict.{Verdict}
-use Rattle.verdicts.specs.Refusals.{Refusal, refusal, first_of, verdict_of, success, NoneApply}
-use Rattle.verdicts.proofs.First.{none_applied, numbered, number_not_0, numbered_rest, refused_so, stops, goes_on_lem, passes}
+use Rattle.verdicts.specs.Refusals.{Refusal, refusal, first_of, verdict_of, NoneApply}
+use Rattle.verdicts.proofs.First.{none_applied, numbered, number_not_0, numbered_rest, stops, goes_on_lem}
 
 abbrev number : Verdict → ℕ
 number v = v.number
@@ -21,19 +21,12 @@ module _ (xs : List Refusal) (v : Verdict) (e : v ≡ verdict_of xs) where
   pub clear : numbered xs ≡ true → v.number ≡ 0 → NoneApply xs
   clear t z = none_applied xs t (sym (ap number e) ∙ z)
 
-  pub succeeds : numbered xs ≡ true → v.number ≡ 0 → verdict_of xs ≡ success
-  succeeds t z = passes xs t (sym (ap number e) ∙ z)
+  module _ {A : Type 0} (refused : ℕ → ℕ → A) (answer : A) (ys : List Refusal) where
+    pub stops_at : (v.number ≡ 0 → ⊥) → first_of refused (xs ++ ys) answer ≡ refused v.number v.place
+    stops_at f = stops refused xs ys answer (refuses f) ∙ ap (λ (u : Verdict). refused u.number u.place) (sym e)
 
-  module _ {A : Type 0} (refused : ℕ → ℕ → A) (answer : A) where
-    pub decides : (v.number ≡ 0 → ⊥) → first_of refused xs answer ≡ refused v.number v.place
-    decides f = refused_so refused xs (refuses f) answer ∙ ap (λ (u : Verdict). refused u.number u.place) (sym e)
-
-    module _ (ys : List Refusal) where
-      pub stops_at : (v.number ≡ 0 → ⊥) → first_of refused (xs ++ ys) answer ≡ refused v.number v.place
-      stops_at f = stops refused xs ys answer (refuses f) ∙ ap (λ (u : Verdict). refused u.number u.place) (sym e)
-
-      pub moves_on : numbered xs ≡ true → v.number ≡ 0 → first_of refused (xs ++ ys) answer ≡ first_of refused ys answer
-      moves_on t z = goes_on_lem refused xs ys answer t (sym (ap number e) ∙ z)
+    pub moves_on : numbered xs ≡ true → v.number ≡ 0 → first_of refused (xs ++ ys) answer ≡ first_of refused ys answer
+    moves_on t z = goes_on_lem refused xs ys answer t (sym (ap number e) ∙ z)
 
 -- ---- behind a table
 

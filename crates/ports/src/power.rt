@@ -9,6 +9,7 @@ use objects::Object;
 use requests::Request;
 use steps::{HalfWatts, Ma10, Ma50, Mv20, Mv25, Mv50};
 
+// These three stay apart: each is one line over `steps::round_up`, and its types say which steps its number is for.
 #[tactic(auto, using(crate::proofs::Powers::fixed_steps))]
 fn fixed_power(volts: Mv50, operating: Ma10) -> u32
     ensures { result ≡ up_of (mv50 volts * ma10 operating) 500000 }
