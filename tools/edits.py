@@ -182,7 +182,9 @@ def refused_in(log, crate):
             folder = re.escape("proofs/" + match[1].replace("::", "/") + "/")
             errors = re.findall(rf"^\S*{folder}\S*: error: (.*)$", log, re.M)
             refusal = Refusal(match[2], lines[before + 1 : at], lines[at + 1 : after], errors)
-            if refusal.is_own:
+            # An impl whose methods are not proved: each of these has a line of its own.
+            waits = lines[at].startswith("impl ") and re.search(r"it (waits for the proof of|stands on) ", match[2])
+            if refusal.is_own and not waits:
                 own[match[1]] = refusal
             else:
                 callers.add(match[1])
