@@ -32,6 +32,10 @@ left_beside capacity s y = (capacity - s.held) + y.held.0
 abbrev pub present_beside : ℕ → Standing → Row → ℕ
 present_beside capacity s y = present_of y (left_beside capacity s y)
 
+-- the row with this cable, offered that P
+abbrev pub offered_beside : ℕ → Standing → Row → ℕ → Row
+offered_beside capacity s y cable = offering y (present_beside capacity s y) cable
+
 -- "on a refusal none is" written: the place past the last row is no row.
 abbrev pub no_change : Standing → ℕ → ℕ → Change
 no_change s n p = record { answer = verdict n p; at = s.count; row = no_row }

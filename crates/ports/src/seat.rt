@@ -5,7 +5,7 @@ ghost use Rattle.verdicts.specs.Refusals.{refusal, first_of, err};
 ghost use Rattle.ports.specs.Rows.{offering, holding, emptied};
 ghost use Rattle.ports.specs.Requests.{new_held};
 ghost use Rattle.ports.specs.Standing.{port_end_refusals};
-ghost use Rattle.ports.specs.Deciding.{left_beside, present_beside, attach_end_refusals, use_end_refusals, request_end_refusals, change_told};
+ghost use Rattle.ports.specs.Deciding.{left_beside, offered_beside, attach_end_refusals, use_end_refusals, request_end_refusals, change_told};
 
 use crate::deciding::named_object;
 use crate::judging::spare;
@@ -89,14 +89,14 @@ impl Seat {
     }
 
     pub fn attached(self, cable: Ma10) -> Result<Row, Verdict>
-        ensures { result ≡ first_of err (attach_end_refusals self.capacity.0 self.standing self.row self.port cable.0) (Ok (offering self.row (present_beside self.capacity.0 self.standing self.row) cable.0)) }
+        ensures { result ≡ first_of err (attach_end_refusals self.capacity.0 self.standing self.row self.port cable.0) (Ok (offered_beside self.capacity.0 self.standing self.row cable.0)) }
     {
         let left = self.left_if_empty(cable)?;
         Ok(self.offered(left, cable))
     }
 
     pub fn advertised(self) -> Result<Row, Verdict>
-        ensures { result ≡ first_of err (use_end_refusals self.capacity.0 self.standing self.row self.port) (Ok (offering self.row (present_beside self.capacity.0 self.standing self.row) self.row.cable.0)) }
+        ensures { result ≡ first_of err (use_end_refusals self.capacity.0 self.standing self.row self.port) (Ok (offered_beside self.capacity.0 self.standing self.row self.row.cable.0)) }
     {
         let left = self.left_in_use()?;
         Ok(self.offered(left, self.row.cable))
