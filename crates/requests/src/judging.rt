@@ -47,7 +47,8 @@ fn avs_top(high: Ma10) -> Mv25
     if high.0 == 0 { Mv25(600) } else { Mv25(800) }
 }
 
-// 15.0 V is 600 steps of 25 mV. There both ranges hold, and the larger current limits.
+// 15.0 V is 600 steps of 25 mV. There both ranges hold, and the larger current limits. `summaries` says the same of mV and mA: one function for
+// both would be public and take a trait of units, for three lines.
 fn avs_limit(low: Ma10, high: Ma10, volts: Mv25) -> Ma10
     ensures { ma10 result ≡ avs_limit (mv25 volts) (ma10 low) (ma10 high) }
 {
