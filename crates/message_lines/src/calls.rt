@@ -17,11 +17,11 @@ fn reading_line<F: FnOnce(&[u8]) -> MessageReading>(
 }
 
 pub fn read_message_line(fields: Fields<'_>) -> Result<MessageText, Unreadable> {
-    reading_line(fields, messages::read_message)
+    reading_line(fields, |bytes| messages::read_message(bytes))
 }
 
 pub fn take_message_line(fields: Fields<'_>) -> Result<MessageText, Unreadable> {
-    reading_line(fields, messages::take_message)
+    reading_line(fields, |bytes| messages::take_message(bytes))
 }
 
 // Writes the message, and tells the length and the whole buffer.

@@ -94,9 +94,8 @@ pub struct ReadingText(pub Reading);
 impl fmt::Display for ReadingText {
     fn fmt<W: fmt::Write>(&self, f: &mut fmt::Formatter<W>) -> fmt::Result {
         let Reading { verdict, list } = self.0;
-        let Objects { places, count } = list;
-        write!(f, "{} {count}", VerdictText(verdict))?;
-        for place in places.iter().take(count as usize) {
+        write!(f, "{} {}", VerdictText(verdict), list.count)?;
+        for place in list.places.iter().take(usize::from(list.count)) {
             write!(f, " {}", ObjectText(place.object))?;
         }
         Ok(())

@@ -76,9 +76,8 @@ pub struct SinkReadingText(pub SinkReading);
 impl fmt::Display for SinkReadingText {
     fn fmt<W: fmt::Write>(&self, f: &mut fmt::Formatter<W>) -> fmt::Result {
         let SinkReading { verdict, list } = self.0;
-        let SinkObjects { places, count } = list;
-        write!(f, "{} {count}", VerdictText(verdict))?;
-        for place in places.iter().take(count as usize) {
+        write!(f, "{} {}", VerdictText(verdict), list.count)?;
+        for place in list.places.iter().take(usize::from(list.count)) {
             write!(f, " {}", SinkObjectText(place.object))?;
         }
         Ok(())
