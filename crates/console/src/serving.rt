@@ -6,7 +6,7 @@ use std::fmt;
 use std::io::Read;
 
 // Why the console stops before the end of its input.
-#[derive(Clone, Copy, Debug, PartialEq, Eq)]
+#[derive(Clone, Copy, Debug)]
 pub(crate) enum Stop {
     Unread,
     Unwritten,
@@ -111,7 +111,8 @@ pub(crate) fn serve(rt: &(impl Print + Input + AllocGlobal)) -> Result<(), Stop>
     let mut input = rt.reader();
     let mut console = Console::new(rt.alloc());
     let served = serve_blocks(rt, &mut input, &mut console);
-    if served != Err(Stop::Unwritten) {
+    // What was read before it could be read no further is answered.
+    if matches!(served, Ok(()) | Err(Stop::Unread)) {
         console.end_input()?;
         console.write_answers(rt)?;
     }

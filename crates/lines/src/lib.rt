@@ -1,4 +1,4 @@
-// What both programs print with, and the lines of the console: the fields that are typed, and the answers that are told.
+// The line of a listing as `caps` prints it, and the lines of the console: the fields that are typed, and the answers that are told.
 
 #![tactic(auto)]
 

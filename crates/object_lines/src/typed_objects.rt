@@ -1,11 +1,12 @@
 // Objects as they are typed and told: a letter for the kind, then its figures in the object's own steps.
-ghost use Rattle.std.specs.Prelude.{◌≤◌};
+ghost use Rattle.std.specs.Iterator.{IsFinite};
 
 use lines::{Fields, Unreadable, VerdictText};
 use lists::{EMPTY_PLACE, Objects, Place, Reading};
 use objects::Object;
 use std::fmt;
 use steps::{Ma10, Ma50, Mv50, Mv100, Mw250};
+use verdicts::Verdict;
 
 fn take_object(fields: &mut Fields<'_>) -> Result<Object, Unreadable> {
     match fields.text()? {
@@ -40,22 +41,29 @@ fn take_object(fields: &mut Fields<'_>) -> Result<Object, Unreadable> {
     }
 }
 
-// As many objects as the count says, and none where it is outside 1 to 7.
-pub fn objects_in(count: u8) -> usize
-    ensures { result ≤ 7 }
+// The count, and as many objects as it says, each in its place; no object where the count is outside 1 to 7.
+pub fn take_counted<P: Copy, F: FnMut(&mut Fields<'_>) -> Result<P, Unreadable>>(
+    fields: &mut Fields<'_>,
+    places: &mut [P],
+    mut take: F,
+) -> Result<u8, Unreadable>
+    requires { F.IsAlwaysCallable take }
 {
-    if count <= 7 { count as usize } else { 0 }
+    let count: u8 = fields.number()?;
+    let typed = if count <= 7 { count } else { 0 };
+    for place in places.iter_mut().take(usize::from(typed)) {
+        *place = take(fields)?;
+    }
+    Ok(count)
 }
 
-// The count, and as many objects.
 pub(crate) fn take_objects(fields: &mut Fields<'_>) -> Result<Objects, Unreadable> {
-    let count = fields.number()?;
     let mut places = [EMPTY_PLACE; 7];
-    for place in places.iter_mut().take(objects_in(count)) {
-        *place = Place {
+    let count = take_counted(fields, &mut places, |fields| {
+        Ok(Place {
             object: take_object(fields)?,
-        };
-    }
+        })
+    })?;
     Ok(Objects { places, count })
 }
 
@@ -87,17 +95,31 @@ impl fmt::Display for ObjectText {
     }
 }
 
-// The verdict, the count and as many objects.
+// The verdict, the count, and as many objects.
+pub fn write_counted<W: fmt::Write, O: fmt::Display + Drop, I: Iterator<Item = O>>(
+    f: &mut fmt::Formatter<W>,
+    verdict: Verdict,
+    count: u8,
+    objects: I,
+) -> fmt::Result
+    requires can { I.can_next objects }
+    requires finite { IsFinite (I.remaining objects) }
+{
+    write!(f, "{} {count}", VerdictText(verdict))?;
+    for object in objects.take(usize::from(count)) {
+        write!(f, " {object}")?;
+    }
+    Ok(())
+}
+
+// A list of objects that was read.
 #[derive(Clone, Copy)]
 pub struct ReadingText(pub Reading);
 
 impl fmt::Display for ReadingText {
     fn fmt<W: fmt::Write>(&self, f: &mut fmt::Formatter<W>) -> fmt::Result {
         let Reading { verdict, list } = self.0;
-        write!(f, "{} {}", VerdictText(verdict), list.count)?;
-        for place in list.places.iter().take(usize::from(list.count)) {
-            write!(f, " {}", ObjectText(place.object))?;
-        }
-        Ok(())
+        let objects = list.places.iter().map(|place| ObjectText(place.object));
+        write_counted(f, verdict, list.count, objects)
     }
 }

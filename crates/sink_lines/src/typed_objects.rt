@@ -1,6 +1,6 @@
 // Sink objects as they are typed and told: a letter for the kind, then the figures that a sink has of it, in the object's own steps.
-use lines::{Fields, Unreadable, VerdictText};
-use object_lines::objects_in;
+use lines::{Fields, Unreadable};
+use object_lines::{take_counted, write_counted};
 use sinks::{EMPTY_SINK_PLACE, SinkObject, SinkObjects, SinkPlace, SinkReading};
 use std::fmt;
 use steps::{Ma10, Ma50, Mv50, Mv100, Mw250};
@@ -32,15 +32,13 @@ fn take_object(fields: &mut Fields<'_>) -> Result<SinkObject, Unreadable> {
     }
 }
 
-// The count, and as many objects.
 pub(crate) fn take_sink_objects(fields: &mut Fields<'_>) -> Result<SinkObjects, Unreadable> {
-    let count = fields.number()?;
     let mut places = [EMPTY_SINK_PLACE; 7];
-    for place in places.iter_mut().take(objects_in(count)) {
-        *place = SinkPlace {
+    let count = take_counted(fields, &mut places, |fields| {
+        Ok(SinkPlace {
             object: take_object(fields)?,
-        };
-    }
+        })
+    })?;
     Ok(SinkObjects { places, count })
 }
 
@@ -69,17 +67,14 @@ impl fmt::Display for SinkObjectText {
     }
 }
 
-// The verdict, the count and as many objects.
+// A sink list that was read.
 #[derive(Clone, Copy)]
 pub struct SinkReadingText(pub SinkReading);
 
 impl fmt::Display for SinkReadingText {
     fn fmt<W: fmt::Write>(&self, f: &mut fmt::Formatter<W>) -> fmt::Result {
         let SinkReading { verdict, list } = self.0;
-        write!(f, "{} {}", VerdictText(verdict), list.count)?;
-        for place in list.places.iter().take(usize::from(list.count)) {
-            write!(f, " {}", SinkObjectText(place.object))?;
-        }
-        Ok(())
+        let objects = list.places.iter().map(|place| SinkObjectText(place.object));
+        write_counted(f, verdict, list.count, objects)
     }
 }
