@@ -1,4 +1,7 @@
 // The fields of a line. Exactly one space stands before each, so they are what lies between the spaces of the line.
+ghost use Rattle.std.specs.Prelude.{◌≡◌, ◌↔◌, IsOk, IsTrue, IsNone, IsSome, IfOk, IfSome};
+ghost use Rattle.lines.specs.Fields.{first_field, IsLeft};
+
 use lists::Words;
 use std::num::ParseIntError;
 use std::str::FromStr;
@@ -17,19 +20,25 @@ impl From<ParseIntError> for Unreadable {
 #[derive(Clone, Copy, Debug)]
 pub struct Fields<'a> {
     // What follows the space after the last field that was read. `None` once the line was read to its end.
-    rest: Option<&'a str>,
+    pub rest: Option<&'a str>,
 }
 
 impl<'a> Fields<'a> {
     // The name of the call, and the fields behind it.
-    pub fn of(line: &'a str) -> (&'a str, Fields<'a>) {
+    pub fn of(line: &'a str) -> (&'a str, Fields<'a>)
+        ensures name { result.0.now ≡ first_field line.now }
+        ensures rest { IsLeft line.now result.1.rest }
+    {
         match line.split_once(' ') {
             Some((name, rest)) => (name, Fields { rest: Some(rest) }),
             None => (line, Fields { rest: None }),
         }
     }
 
-    pub fn text(&mut self) -> Result<&'a str, Unreadable> {
+    pub fn text(&mut self) -> Result<&'a str, Unreadable>
+        ensures variant { IsOk result ↔ IsSome self.old.rest }
+        ensures ok { IfOk result (λ t. IfSome self.old.rest (λ r. (t.now ≡ first_field r.now) × IsLeft r.now self.new.rest)) }
+    {
         let rest = self.rest.ok_or(Unreadable)?;
         let (text, left) = Fields::of(rest);
         *self = left;
@@ -77,12 +86,16 @@ impl<'a> Fields<'a> {
         Ok(Words { words, count })
     }
 
-    pub fn is_at_end(&self) -> bool {
+    pub fn is_at_end(&self) -> bool
+        ensures { IsTrue result ↔ IsNone self.now.rest }
+    {
         self.rest.is_none()
     }
 
     // Nothing may be left over.
-    pub fn end(&self) -> Result<(), Unreadable> {
+    pub fn end(&self) -> Result<(), Unreadable>
+        ensures { IsOk result ↔ IsNone self.now.rest }
+    {
         if self.is_at_end() {
             Ok(())
         } else {

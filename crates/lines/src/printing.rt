@@ -1,4 +1,7 @@
 // What is told, as it is printed.
+ghost use Rattle.std.specs.Prelude.{◌++◌, ◌∷◌, Some};
+ghost use Rattle.std.specs.Fmt.{decimal};
+
 use lists::{Listing, Words};
 use std::fmt;
 use verdicts::Verdict;
@@ -8,6 +11,8 @@ use verdicts::Verdict;
 pub struct VerdictText(pub Verdict);
 
 impl fmt::Display for VerdictText {
+    ghost output = { λ v. Some (decimal v.0.number ++ 32 ∷ decimal v.0.place) };
+
     fn fmt<W: fmt::Write>(&self, f: &mut fmt::Formatter<W>) -> fmt::Result {
         write!(f, "{} {}", self.0.number, self.0.place)
     }
