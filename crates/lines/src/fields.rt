@@ -1,5 +1,6 @@
 // The fields of a line. Exactly one space stands before each, so they are what lies between the spaces of the line.
-ghost use Rattle.std.specs.Prelude.{◌≡◌, ◌↔◌, IsOk, IsTrue, IsNone, IsSome, IfOk, IfSome};
+ghost use Rattle.std.specs.Prelude.{◌≡◌, ◌↔◌, IsOk, IsTrue, IsNone, IsSome, IfOk, IfSome, OnOk, Ok, length, slice_index, ◌≢◌};
+ghost use Rattle.std.specs.Str.Parse.{IsNumeral, digits_value};
 ghost use Rattle.lines.specs.Fields.{first_field, IsLeft};
 
 use lists::Words;
@@ -46,7 +47,11 @@ impl<'a> Fields<'a> {
     }
 
     // Digits have no sign, which a parser of numbers would take.
-    fn digits(&mut self) -> Result<&'a str, Unreadable> {
+    fn digits(&mut self) -> Result<&'a str, Unreadable>
+        ensures ok { IfOk result (λ t. IfSome self.old.rest (λ r. (t.now ≡ first_field r.now) × IsLeft r.now self.new.rest)) }
+        ensures unsigned { IfOk result (λ t. slice_index t.now 0 ≢ 43) }
+        ensures there { IsOk result → IsSome self.old.rest }
+    {
         let text = self.text()?;
         if text.starts_with('+') {
             return Err(Unreadable);
@@ -55,13 +60,24 @@ impl<'a> Fields<'a> {
     }
 
     // A decimal number that its parameter can hold.
-    pub fn number<N: FromStr<Err = ParseIntError>>(&mut self) -> Result<N, Unreadable> {
+    pub fn number<N: FromStr<Err = ParseIntError>>(&mut self) -> Result<N, Unreadable>
+        ensures value { IfOk result (λ n. IfSome self.old.rest (λ r. N.from_str_gives (first_field r.now) (Ok n))) }
+        ensures unsigned { OnOk result (IfSome self.old.rest (λ r. slice_index (first_field r.now) 0 ≢ 43)) }
+        ensures rest { OnOk result (IfSome self.old.rest (λ r. IsLeft r.now self.new.rest)) }
+        ensures there { IsOk result → IsSome self.old.rest }
+    {
         let number = self.digits()?.parse()?;
         Ok(number)
     }
 
     // A word: eight hex digits, small and capital letters alike.
-    pub fn word(&mut self) -> Result<u32, Unreadable> {
+    pub fn word(&mut self) -> Result<u32, Unreadable>
+        ensures value { IfOk result (λ w. IfSome self.old.rest (λ r. IsNumeral 16 (first_field r.now) × (w ≡ digits_value 16 (first_field r.now)))) }
+        ensures length { OnOk result (IfSome self.old.rest (λ r. length (first_field r.now) ≡ 8)) }
+        ensures unsigned { OnOk result (IfSome self.old.rest (λ r. slice_index (first_field r.now) 0 ≢ 43)) }
+        ensures rest { OnOk result (IfSome self.old.rest (λ r. IsLeft r.now self.new.rest)) }
+        ensures there { IsOk result → IsSome self.old.rest }
+    {
         let digits = self.digits()?;
         if digits.len() != 8 {
             return Err(Unreadable);
