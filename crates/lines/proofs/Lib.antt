@@ -2,3 +2,4 @@ pub mod Appending
 pub mod Lengths
 pub mod HexDigits
 pub mod Places
+pub mod Digits

@@ -1,6 +1,7 @@
 // The fields of a line. Exactly one space stands before each, so they are what lies between the spaces of the line.
-ghost use Rattle.std.specs.Prelude.{◌≡◌, ◌↔◌, IsOk, IsTrue, IsNone, IsSome, IfOk, IfSome, OnOk, Ok, length, slice_index, ◌≢◌};
+ghost use Rattle.std.specs.Prelude.{◌≡◌, ◌↔◌, IsOk, IsTrue, IsNone, IsSome, IfOk, IfSome, OnOk, OnErr, Ok, Err, length, slice_index, ◌≢◌};
 ghost use Rattle.std.specs.Str.Parse.{IsNumeral, digits_value};
+ghost use Rattle.std.specs.declared.num.ParseIntError.{ParseIntError};
 ghost use Rattle.lines.specs.Fields.{first_field, IsLeft};
 
 use lists::Words;
@@ -50,6 +51,7 @@ impl<'a> Fields<'a> {
     fn digits(&mut self) -> Result<&'a str, Unreadable>
         ensures ok { IfOk result (λ t. IfSome self.old.rest (λ r. (t.now ≡ first_field r.now) × IsLeft r.now self.new.rest)) }
         ensures unsigned { IfOk result (λ t. slice_index t.now 0 ≢ 43) }
+        ensures reads { IfSome self.old.rest (λ r. slice_index (first_field r.now) 0 ≢ 43 → IsOk result) }
         ensures there { IsOk result → IsSome self.old.rest }
     {
         let text = self.text()?;
@@ -64,6 +66,7 @@ impl<'a> Fields<'a> {
         ensures value { IfOk result (λ n. IfSome self.old.rest (λ r. N.from_str_gives (first_field r.now) (Ok n))) }
         ensures unsigned { OnOk result (IfSome self.old.rest (λ r. slice_index (first_field r.now) 0 ≢ 43)) }
         ensures rest { OnOk result (IfSome self.old.rest (λ r. IsLeft r.now self.new.rest)) }
+        ensures refuses { OnErr result (IfSome self.old.rest (λ r. slice_index (first_field r.now) 0 ≢ 43 → (e : ParseIntError) × N.from_str_gives (first_field r.now) (Err e))) }
         ensures there { IsOk result → IsSome self.old.rest }
     {
         let number = self.digits()?.parse()?;
@@ -71,11 +74,13 @@ impl<'a> Fields<'a> {
     }
 
     // A word: eight hex digits, small and capital letters alike.
+    #[tactic(auto, using(crate::proofs::Digits::eight))]
     pub fn word(&mut self) -> Result<u32, Unreadable>
         ensures value { IfOk result (λ w. IfSome self.old.rest (λ r. IsNumeral 16 (first_field r.now) × (w ≡ digits_value 16 (first_field r.now)))) }
         ensures length { OnOk result (IfSome self.old.rest (λ r. length (first_field r.now) ≡ 8)) }
         ensures unsigned { OnOk result (IfSome self.old.rest (λ r. slice_index (first_field r.now) 0 ≢ 43)) }
         ensures rest { OnOk result (IfSome self.old.rest (λ r. IsLeft r.now self.new.rest)) }
+        ensures reads { IfSome self.old.rest (λ r. IsNumeral 16 (first_field r.now) → length (first_field r.now) ≡ 8 → IsOk result) }
         ensures there { IsOk result → IsSome self.old.rest }
     {
         let digits = self.digits()?;
