@@ -3,3 +3,5 @@ pub mod Lengths
 pub mod HexDigits
 pub mod Places
 pub mod Digits
+pub mod HexWord
+pub mod Telling

@@ -1,7 +1,9 @@
 // What is told, as it is printed.
 ghost use Rattle.std.specs.Prelude.{◌++◌, ◌∷◌, Some};
 ghost use Rattle.std.specs.Fmt.{decimal};
+ghost use Rattle.lines.specs.Text.{hex_word, places_text};
 
+use crate::text::places_that_count;
 use lists::{Listing, Words};
 use std::fmt;
 use verdicts::Verdict;
@@ -18,6 +20,20 @@ impl fmt::Display for VerdictText {
     }
 }
 
+// A space and the word.
+#[derive(Clone, Copy)]
+struct PlaceText(u32);
+
+impl fmt::Display for PlaceText {
+    ghost output = { λ w. Some (32 ∷ hex_word w.0) };
+
+    #[tactic(auto, using(crate::proofs::HexWord::padded_hex_word))]
+    fn fmt<W: fmt::Write>(&self, f: &mut fmt::Formatter<W>) -> fmt::Result {
+        let word = self.0;
+        write!(f, " {word:08X}")
+    }
+}
+
 // As many words as count, with a space before each.
 #[derive(Clone, Copy)]
 pub struct WordsText {
@@ -26,9 +42,11 @@ pub struct WordsText {
 }
 
 impl fmt::Display for WordsText {
+    ghost output = { λ t. Some (places_text t.words t.count 7) };
+
     fn fmt<W: fmt::Write>(&self, f: &mut fmt::Formatter<W>) -> fmt::Result {
-        for word in self.words.iter().take(self.count as usize) {
-            write!(f, " {word:08X}")?;
+        for word in &self.words[..places_that_count(self.count)] {
+            write!(f, "{}", PlaceText(*word))?;
         }
         Ok(())
     }
@@ -39,6 +57,8 @@ impl fmt::Display for WordsText {
 pub struct ListingText(pub Listing);
 
 impl fmt::Display for ListingText {
+    ghost output = { λ t. Some (decimal t.0.verdict.number ++ 32 ∷ decimal t.0.verdict.place ++ 32 ∷ decimal t.0.list.count ++ places_text t.0.list.words t.0.list.count 7) };
+
     fn fmt<W: fmt::Write>(&self, f: &mut fmt::Formatter<W>) -> fmt::Result {
         let Listing { verdict, list } = self.0;
         let Words { words, count } = list;

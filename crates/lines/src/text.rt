@@ -62,7 +62,7 @@ fn put_place(out: &mut [u8], at: usize, w: u32) -> usize
     put_hex_word(out, next, w)
 }
 
-fn places_that_count(count: u8) -> usize
+pub(crate) fn places_that_count(count: u8) -> usize
     ensures { result ≡ min count 7 }
 {
     usize::from(count.min(7))
