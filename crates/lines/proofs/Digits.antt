@@ -1,13 +1,10 @@
 -- Eight hex digits fit a word.
 -- Assumes nothing.
 use mathlib.Core.Path.{◌≡◌}
-use mathlib.Core.Logic.{◌≢◌}
-use mathlib.Core.List.{List, [], ◌∷◌}
+use mathlib.Core.List.{List}
 use Prim.Native.Nat.{ℕ, ◌<◌, ◌^◌}
 use lib.ListN.{length}
-use native.Mathlib.Omega.{arith}
 use Rattle.std.specs.Str.Parse.{IsNumeral, digits_value}
-use Rattle.std.specs.Prelude.{slice_index}
 use Rattle.std.proofs.Common.{rules}
 use Rattle.std.proofs.lemmas.Int.Digits.{digits_value-lt}
 

@@ -1,7 +1,7 @@
 -- What `{:08X}` writes of a word: its eight hex digits.
 -- Assumes nothing.
 use mathlib.Core.Path.{◌≡◌, refl, ap, ap₂, sym, ◌∙◌}
-use mathlib.Core.Bool.{Bool, true, false}
+use mathlib.Core.Bool.{true, false}
 use mathlib.Core.Logic.{⊎_elim}
 use mathlib.Core.List.{List, [], ◌∷◌, ◌++◌, append_assoc, append-nil}
 use Prim.Native.Nat.{ℕ, zero, suc, ◌+◌, ◌-◌, ◌*◌, ◌/◌, ◌%◌, ◌^◌, ◌≤◌, ◌<◌}
@@ -10,12 +10,11 @@ use lib.Dec.{eqb}
 use native.Mathlib.Numerals.{add-one}
 use Rattle.std.proofs.lemmas.List.{replicate-append-replicate}
 use Rattle.std.proofs.lemmas.Bool.{ne_eqb, cases_order}
-use lib.ListN.{length, replicate, length-append}
+use lib.ListN.{length, replicate}
 use borrow.Author.Tests.{eqb-true}
-use Rattle.std.proofs.Common.{rules}
 use Rattle.std.specs.Fmt.{digits, digits_onto, digit_glyph, padded_integral, format_spec, char_count}
 use Rattle.steps.proofs.Computed.{every_below, at_each}
-use Rattle.lines.specs.Text.{hex_digit, hex_digits, hex_word}
+use Rattle.lines.specs.Text.{hex_digit, hex_word}
 
 -- the last k hex digits of n, the highest first
 abbrev last_digits : ℕ → ℕ → List ℕ

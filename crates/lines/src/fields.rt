@@ -1,8 +1,8 @@
 // The fields of a line. Exactly one space stands before each, so they are what lies between the spaces of the line.
-ghost use Rattle.std.specs.Prelude.{◌≡◌, ◌↔◌, IsOk, IsTrue, IsNone, IsSome, IfOk, IfSome, OnOk, OnErr, Ok, Err, length, slice_index, ◌≢◌};
+ghost use Rattle.std.specs.Prelude.{◌≡◌, ◌↔◌, IsOk, IsTrue, IsNone, IsSome, IfOk, OnOk, OnErr, Ok, Err, length, slice_index, ◌≢◌};
 ghost use Rattle.std.specs.Str.Parse.{IsNumeral, digits_value};
 ghost use Rattle.std.specs.declared.num.ParseIntError.{ParseIntError};
-ghost use Rattle.lines.specs.Fields.{first_field, IsLeft};
+ghost use Rattle.lines.specs.Fields.{first_field, IsLeft, Leaves, OnNext};
 
 use lists::Words;
 use std::num::ParseIntError;
@@ -39,19 +39,21 @@ impl<'a> Fields<'a> {
 
     pub fn text(&mut self) -> Result<&'a str, Unreadable>
         ensures variant { IsOk result ↔ IsSome self.old.rest }
-        ensures ok { IfOk result (λ t. IfSome self.old.rest (λ r. (t.now ≡ first_field r.now) × IsLeft r.now self.new.rest)) }
+        ensures value { IfOk result (λ text. OnNext self.old.rest (λ next. text.now ≡ next)) }
+        ensures rest { OnOk result (Leaves self.old.rest self.new.rest) }
     {
         let rest = self.rest.ok_or(Unreadable)?;
-        let (text, left) = Fields::of(rest);
+        let (next, left) = Fields::of(rest);
         *self = left;
-        Ok(text)
+        Ok(next)
     }
 
     // Digits have no sign, which a parser of numbers would take.
     fn digits(&mut self) -> Result<&'a str, Unreadable>
-        ensures ok { IfOk result (λ t. IfSome self.old.rest (λ r. (t.now ≡ first_field r.now) × IsLeft r.now self.new.rest)) }
+        ensures value { IfOk result (λ text. OnNext self.old.rest (λ next. text.now ≡ next)) }
+        ensures rest { OnOk result (Leaves self.old.rest self.new.rest) }
         ensures unsigned { IfOk result (λ t. slice_index t.now 0 ≢ 43) }
-        ensures reads { IfSome self.old.rest (λ r. slice_index (first_field r.now) 0 ≢ 43 → IsOk result) }
+        ensures reads { OnNext self.old.rest (λ next. slice_index next 0 ≢ 43 → IsOk result) }
         ensures there { IsOk result → IsSome self.old.rest }
     {
         let text = self.text()?;
@@ -63,32 +65,29 @@ impl<'a> Fields<'a> {
 
     // A decimal number that its parameter can hold.
     pub fn number<N: FromStr<Err = ParseIntError>>(&mut self) -> Result<N, Unreadable>
-        ensures value { IfOk result (λ n. IfSome self.old.rest (λ r. N.from_str_gives (first_field r.now) (Ok n))) }
-        ensures unsigned { OnOk result (IfSome self.old.rest (λ r. slice_index (first_field r.now) 0 ≢ 43)) }
-        ensures rest { OnOk result (IfSome self.old.rest (λ r. IsLeft r.now self.new.rest)) }
-        ensures refuses { OnErr result (IfSome self.old.rest (λ r. slice_index (first_field r.now) 0 ≢ 43 → (e : ParseIntError) × N.from_str_gives (first_field r.now) (Err e))) }
+        ensures value { IfOk result (λ n. OnNext self.old.rest (λ next. N.from_str_gives next (Ok n))) }
+        ensures unsigned { OnOk result (OnNext self.old.rest (λ next. slice_index next 0 ≢ 43)) }
+        ensures rest { OnOk result (Leaves self.old.rest self.new.rest) }
+        ensures refuses { OnErr result (OnNext self.old.rest (λ next. slice_index next 0 ≢ 43 → (e : ParseIntError) × N.from_str_gives next (Err e))) }
         ensures there { IsOk result → IsSome self.old.rest }
     {
-        let number = self.digits()?.parse()?;
-        Ok(number)
+        Ok(self.digits()?.parse()?)
     }
 
     // A word: eight hex digits, small and capital letters alike.
     #[tactic(auto, using(crate::proofs::Digits::eight))]
     pub fn word(&mut self) -> Result<u32, Unreadable>
-        ensures value { IfOk result (λ w. IfSome self.old.rest (λ r. IsNumeral 16 (first_field r.now) × (w ≡ digits_value 16 (first_field r.now)))) }
-        ensures length { OnOk result (IfSome self.old.rest (λ r. length (first_field r.now) ≡ 8)) }
-        ensures unsigned { OnOk result (IfSome self.old.rest (λ r. slice_index (first_field r.now) 0 ≢ 43)) }
-        ensures rest { OnOk result (IfSome self.old.rest (λ r. IsLeft r.now self.new.rest)) }
-        ensures reads { IfSome self.old.rest (λ r. IsNumeral 16 (first_field r.now) → length (first_field r.now) ≡ 8 → IsOk result) }
+        ensures value { IfOk result (λ word. OnNext self.old.rest (λ next. IsNumeral 16 next × (word ≡ digits_value 16 next))) }
+        ensures eight { OnOk result (OnNext self.old.rest (λ next. length next ≡ 8)) }
+        ensures rest { OnOk result (Leaves self.old.rest self.new.rest) }
+        ensures reads { OnNext self.old.rest (λ next. IsNumeral 16 next → length next ≡ 8 → IsOk result) }
         ensures there { IsOk result → IsSome self.old.rest }
     {
         let digits = self.digits()?;
         if digits.len() != 8 {
             return Err(Unreadable);
         }
-        let word = u32::from_str_radix(digits, 16)?;
-        Ok(word)
+        Ok(u32::from_str_radix(digits, 16)?)
     }
 
     // The words of a list or a message are typed all seven, also where fewer count.

@@ -1,6 +1,5 @@
 -- `lines::text::put_places` meets its contract: the invariant is that the places passed are put; those past the count have no text.
 -- Assumes nothing.
-use borrow.Author.Rules.{rules}
 use Prim.Native.Nat.{◌<◌}
 use native.Mathlib.Nat.{min-le_left, min-le_right}
 use native.Mathlib.Omega.{arith}
