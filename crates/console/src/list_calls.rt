@@ -1,4 +1,7 @@
 // The calls that take a profile or a list and leave the port rows alone. Each is handed the fields behind its name.
+ghost use Rattle.std.specs.Prelude.{[], ◌∷◌, ◌++◌, Some};
+ghost use Rattle.lines.specs.Numbers.{numbers_text, verdict_text};
+
 use lines::{Fields, ListingText, Unreadable, VerdictText};
 use rules::{Profile, Profiled};
 use std::fmt;
@@ -21,6 +24,8 @@ fn take_profile(fields: &mut Fields<'_>) -> Result<Profile, Unreadable> {
 pub(crate) struct DefaultText(Profiled);
 
 impl fmt::Display for DefaultText {
+    ghost output = { λ d. Some (verdict_text d.0.verdict.number d.0.verdict.place ++ numbers_text (d.0.profile.max.0 ∷ d.0.profile.present.0 ∷ d.0.profile.cable.0 ∷ d.0.profile.rounding ∷ d.0.profile.pps ∷ d.0.profile.flags ∷ [])) };
+
     fn fmt<W: fmt::Write>(&self, f: &mut fmt::Formatter<W>) -> fmt::Result {
         let Profiled { verdict, profile } = self.0;
         let Profile {

@@ -1,4 +1,7 @@
 // The sharing calls, over the console's own rows. Each is handed the fields behind its name.
+ghost use Rattle.std.specs.Prelude.{[], ◌∷◌, ◌++◌, Some};
+ghost use Rattle.lines.specs.Numbers.{numbers_text, verdict_text};
+
 use lines::{Fields, ListingText, Unreadable, VerdictText};
 use ports::{RemainingPower, Row};
 use std::fmt;
@@ -8,6 +11,8 @@ use std::fmt;
 pub(crate) struct RemainingText(RemainingPower);
 
 impl fmt::Display for RemainingText {
+    ghost output = { λ r. Some (verdict_text r.0.verdict.number r.0.verdict.place ++ numbers_text (r.0.power.0 ∷ [])) };
+
     fn fmt<W: fmt::Write>(&self, f: &mut fmt::Formatter<W>) -> fmt::Result {
         let RemainingPower { verdict, power } = self.0;
         write!(f, "{} {}", VerdictText(verdict), power.0)

@@ -1,4 +1,7 @@
 // The console's own port rows: `rows` sets them, `table` tells them.
+ghost use Rattle.std.specs.Prelude.{[], ◌∷◌, ◌++◌, Some, codes};
+ghost use Rattle.lines.specs.Numbers.{numbers_text};
+
 use crate::answering::Unanswered;
 use lines::{Fields, Unreadable};
 use ports::Row;
@@ -24,6 +27,8 @@ fn take_row(fields: &mut Fields<'_>) -> Result<Row, Unreadable> {
 pub(crate) struct CountText(usize);
 
 impl fmt::Display for CountText {
+    ghost output = { λ c. Some (codes "rows" ++ numbers_text (c.0 ∷ [])) };
+
     fn fmt<W: fmt::Write>(&self, f: &mut fmt::Formatter<W>) -> fmt::Result {
         write!(f, "rows {}", self.0)
     }

@@ -1,6 +1,6 @@
 // What is told, as it is printed.
-ghost use Rattle.std.specs.Prelude.{◌++◌, ◌∷◌, Some};
-ghost use Rattle.std.specs.Fmt.{decimal};
+ghost use Rattle.std.specs.Prelude.{[], ◌++◌, ◌∷◌, Some};
+ghost use Rattle.lines.specs.Numbers.{numbers_text, verdict_text};
 ghost use Rattle.lines.specs.Text.{hex_word, places_text};
 
 use crate::text::places_that_count;
@@ -13,7 +13,7 @@ use verdicts::Verdict;
 pub struct VerdictText(pub Verdict);
 
 impl fmt::Display for VerdictText {
-    ghost output = { λ v. Some (decimal v.0.number ++ 32 ∷ decimal v.0.place) };
+    ghost output = { λ v. Some (verdict_text v.0.number v.0.place) };
 
     fn fmt<W: fmt::Write>(&self, f: &mut fmt::Formatter<W>) -> fmt::Result {
         write!(f, "{} {}", self.0.number, self.0.place)
@@ -57,7 +57,7 @@ impl fmt::Display for WordsText {
 pub struct ListingText(pub Listing);
 
 impl fmt::Display for ListingText {
-    ghost output = { λ t. Some (decimal t.0.verdict.number ++ 32 ∷ decimal t.0.verdict.place ++ 32 ∷ decimal t.0.list.count ++ places_text t.0.list.words t.0.list.count 7) };
+    ghost output = { λ t. Some (verdict_text t.0.verdict.number t.0.verdict.place ++ numbers_text (t.0.list.count ∷ []) ++ places_text t.0.list.words t.0.list.count 7) };
 
     fn fmt<W: fmt::Write>(&self, f: &mut fmt::Formatter<W>) -> fmt::Result {
         let Listing { verdict, list } = self.0;

@@ -1,13 +1,20 @@
 // What is told of a message and of a buffer.
+ghost use Rattle.std.specs.Prelude.{◌++◌, Some};
+ghost use Rattle.lines.specs.Numbers.{verdict_text};
+ghost use Rattle.message_lines.specs.Telling.{header_text, message_text};
+
 use crate::fields::Bytes;
 use lines::{VerdictText, WordsText};
 use messages::{Header, Message, MessageReading, Written};
 use std::fmt;
 
+// A space before each of the header's seven numbers.
 #[derive(Clone, Copy)]
 struct HeaderText(Header);
 
 impl fmt::Display for HeaderText {
+    ghost output = { λ h. Some (header_text h.0) };
+
     fn fmt<W: fmt::Write>(&self, f: &mut fmt::Formatter<W>) -> fmt::Result {
         let Header {
             extended,
@@ -20,7 +27,7 @@ impl fmt::Display for HeaderText {
         } = self.0;
         write!(
             f,
-            "{extended} {count} {id} {power_role} {revision} {data_role} {message_type}"
+            " {extended} {count} {id} {power_role} {revision} {data_role} {message_type}"
         )
     }
 }
@@ -30,13 +37,15 @@ impl fmt::Display for HeaderText {
 pub struct MessageText(pub MessageReading);
 
 impl fmt::Display for MessageText {
+    ghost output = { λ r. Some (verdict_text r.0.verdict.number r.0.verdict.place ++ message_text r.0.message) };
+
     fn fmt<W: fmt::Write>(&self, f: &mut fmt::Formatter<W>) -> fmt::Result {
         let MessageReading { verdict, message } = self.0;
         let Message { header, words } = message;
         let count = header.count;
         write!(
             f,
-            "{} {}{}",
+            "{}{}{}",
             VerdictText(verdict),
             HeaderText(header),
             WordsText { words, count }

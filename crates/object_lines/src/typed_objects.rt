@@ -1,5 +1,7 @@
 // Objects as they are typed and told: a letter for the kind, then its figures in the object's own steps.
+ghost use Rattle.std.specs.Prelude.{Some};
 ghost use Rattle.std.specs.Iterator.{IsFinite};
+ghost use Rattle.object_lines.specs.Telling.{object_text};
 
 use lines::{Fields, Unreadable, VerdictText};
 use lists::{EMPTY_PLACE, Objects, Place, Reading};
@@ -72,6 +74,8 @@ pub(crate) fn take_objects(fields: &mut Fields<'_>) -> Result<Objects, Unreadabl
 struct ObjectText(Object);
 
 impl fmt::Display for ObjectText {
+    ghost output = { λ o. Some (object_text o.0) };
+
     fn fmt<W: fmt::Write>(&self, f: &mut fmt::Formatter<W>) -> fmt::Result {
         match self.0 {
             Object::Fixed {

@@ -1,4 +1,7 @@
 // Sink objects as they are typed and told: a letter for the kind, then the figures that a sink has of it, in the object's own steps.
+ghost use Rattle.std.specs.Prelude.{Some};
+ghost use Rattle.sink_lines.specs.Telling.{sink_object_text};
+
 use lines::{Fields, Unreadable};
 use object_lines::{take_counted, write_counted};
 use sinks::{EMPTY_SINK_PLACE, SinkObject, SinkObjects, SinkPlace, SinkReading};
@@ -47,6 +50,8 @@ pub(crate) fn take_sink_objects(fields: &mut Fields<'_>) -> Result<SinkObjects, 
 struct SinkObjectText(SinkObject);
 
 impl fmt::Display for SinkObjectText {
+    ghost output = { λ o. Some (sink_object_text o.0) };
+
     fn fmt<W: fmt::Write>(&self, f: &mut fmt::Formatter<W>) -> fmt::Result {
         match self.0 {
             SinkObject::Fixed {
