@@ -100,7 +100,9 @@ impl<'a> Fields<'a> {
     }
 
     // A list is typed as its count and all seven words, also where the count is less.
-    pub fn list(&mut self) -> Result<Words, Unreadable> {
+    pub fn list(&mut self) -> Result<Words, Unreadable>
+        ensures { IfOk result (λ list. OnNext self.old.rest (λ next. IsNumeral 10 next × (list.count ≡ digits_value 10 next))) }
+    {
         let count = self.number()?;
         let words = self.seven_words()?;
         Ok(Words { words, count })

@@ -1,6 +1,8 @@
 // Objects as they are typed and told: a letter for the kind, then its figures in the object's own steps.
-ghost use Rattle.std.specs.Prelude.{Some};
+ghost use Rattle.std.specs.Prelude.{◌≡◌, IfOk, Some};
+ghost use Rattle.std.specs.Str.Parse.{IsNumeral, digits_value};
 ghost use Rattle.std.specs.Iterator.{IsFinite};
+ghost use Rattle.lines.specs.Fields.{OnNext};
 ghost use Rattle.object_lines.specs.Telling.{object_text};
 
 use lines::{Fields, Unreadable, VerdictText};
@@ -50,6 +52,7 @@ pub fn take_counted<P: Copy, F: FnMut(&mut Fields<'_>) -> Result<P, Unreadable>>
     mut take: F,
 ) -> Result<u8, Unreadable>
     requires { F.IsAlwaysCallable take }
+    ensures { IfOk result (λ count. OnNext fields.old.rest (λ next. IsNumeral 10 next × (count ≡ digits_value 10 next))) }
 {
     let count: u8 = fields.number()?;
     let typed = if count <= 7 { count } else { 0 };
