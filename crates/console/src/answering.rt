@@ -1,121 +1,98 @@
-// Which call a line asks for. A name that begins with another, as `readmsg` with `read`, is looked for before it; whatever follows the
-// name is looked at by the call's own line function.
+// Which call a line asks for.
 use crate::list_calls::{answer_call_line, build_line, check_line, default_line};
 use crate::port_calls::{
     advertise_line, attach_line, detach_line, remaining_line, request_line, set_up_line,
 };
-use crate::table::{Answered, Table, rows_line, table_line};
-use lines::put_unreadable;
+use crate::table::{rows_line, table_line};
+use lines::{Fields, Unreadable};
 use message_lines::{read_message_line, take_message_line, write_message_line};
 use object_lines::{read_line, shape_line, write_line};
+use ports::Row;
 use sink_lines::{sink_check_line, sink_read_line, sink_shape_line, sink_write_line};
+use std::alloc::{AllocError, AllocFailed};
+use std::fmt::Display;
 use summary_lines::{quick_line, summary_line};
 
-fn begins(line: &[u8], name: &[u8]) -> bool {
-    if line.len() < name.len() {
-        return false;
-    }
-    let mut i = 0;
-    while i < name.len() {
-        if line[i] != name[i] {
-            return false;
-        }
-        i += 1;
-    }
-    true
+// Why a line gets no answer of its call's.
+#[derive(Drop)]
+pub(crate) enum Unanswered {
+    Unreadable,
+    NoMemory(AllocError),
 }
 
-fn answer_sink_line(rt: &impl Print, line: &[u8], out: &mut [u8; 4096], end: usize) -> usize {
-    if begins(line, b"sinkshape") {
-        return sink_shape_line(rt, line, 9, out, end);
+impl From<Unreadable> for Unanswered {
+    fn from(_line: Unreadable) -> Unanswered {
+        Unanswered::Unreadable
     }
-    if begins(line, b"sinkread") {
-        return sink_read_line(rt, line, 8, out, end);
-    }
-    if begins(line, b"sinkwrite") {
-        return sink_write_line(rt, line, 9, out, end);
-    }
-    if begins(line, b"sinkcheck") {
-        return sink_check_line(rt, line, 9, out, end);
-    }
-    put_unreadable(rt, out, end)
 }
 
-fn answer_summary_line(rt: &impl Print, line: &[u8], out: &mut [u8; 4096], end: usize) -> usize {
-    if begins(line, b"summary") {
-        return summary_line(rt, line, 7, out, end);
+impl From<AllocError> for Unanswered {
+    fn from(error: AllocError) -> Unanswered {
+        Unanswered::NoMemory(error)
     }
-    if begins(line, b"quick") {
-        return quick_line(rt, line, 5, out, end);
-    }
-    answer_sink_line(rt, line, out, end)
 }
 
-fn answer_list_line(rt: &impl Print, line: &[u8], out: &mut [u8; 4096], end: usize) -> usize {
-    if begins(line, b"default") {
-        return default_line(rt, line, 7, out, end);
+impl<T: Drop> From<AllocFailed<T>> for Unanswered {
+    fn from(failed: AllocFailed<T>) -> Unanswered {
+        Unanswered::NoMemory(AllocError::from(failed))
     }
-    if begins(line, b"build") {
-        return build_line(rt, line, 5, out, end);
-    }
-    if begins(line, b"shape") {
-        return shape_line(rt, line, 5, out, end);
-    }
-    if begins(line, b"check") {
-        return check_line(rt, line, 5, out, end);
-    }
-    if begins(line, b"readmsg") {
-        return read_message_line(rt, line, 7, out, end);
-    }
-    if begins(line, b"takemsg") {
-        return take_message_line(rt, line, 7, out, end);
-    }
-    if begins(line, b"writemsg") {
-        return write_message_line(rt, line, 8, out, end);
-    }
-    if begins(line, b"read") {
-        return read_line(rt, line, 4, out, end);
-    }
-    if begins(line, b"write") {
-        return write_line(rt, line, 5, out, end);
-    }
-    if begins(line, b"answer") {
-        return answer_call_line(rt, line, 6, out, end);
-    }
-    answer_summary_line(rt, line, out, end)
 }
 
+fn tell<A: Display + Drop>(answers: &mut String, answer: A) -> Result<(), Unanswered> {
+    writeln!(answers, "{answer}")?;
+    Ok(())
+}
+
+// A line of more bytes cannot be read.
+pub(crate) const LONGEST_LINE: usize = 512;
+
+fn text_of(line: &[u8]) -> Result<&str, Unreadable> {
+    if LONGEST_LINE < line.len() {
+        return Err(Unreadable);
+    }
+    str::from_utf8(line).map_err(|_| Unreadable)
+}
+
+fn answer_call(answers: &mut String, table: &mut Vec<Row>, line: &[u8]) -> Result<(), Unanswered> {
+    let (name, fields) = Fields::of(text_of(line)?);
+    match name {
+        "default" => tell(answers, default_line(fields)?),
+        "build" => tell(answers, build_line(fields)?),
+        "check" => tell(answers, check_line(fields)?),
+        "answer" => tell(answers, answer_call_line(fields)?),
+        "shape" => tell(answers, shape_line(fields)?),
+        "read" => tell(answers, read_line(fields)?),
+        "write" => tell(answers, write_line(fields)?),
+        "summary" => tell(answers, summary_line(fields)?),
+        "quick" => tell(answers, quick_line(fields)?),
+        "sinkshape" => tell(answers, sink_shape_line(fields)?),
+        "sinkread" => tell(answers, sink_read_line(fields)?),
+        "sinkwrite" => tell(answers, sink_write_line(fields)?),
+        "sinkcheck" => tell(answers, sink_check_line(fields)?),
+        "readmsg" => tell(answers, read_message_line(fields)?),
+        "takemsg" => tell(answers, take_message_line(fields)?),
+        "writemsg" => tell(answers, write_message_line(fields)?),
+        "setup" => tell(answers, set_up_line(table.as_mut_slice(), fields)?),
+        "attach" => tell(answers, attach_line(table.as_mut_slice(), fields)?),
+        "advertise" => tell(answers, advertise_line(table.as_mut_slice(), fields)?),
+        "request" => tell(answers, request_line(table.as_mut_slice(), fields)?),
+        "detach" => tell(answers, detach_line(table.as_mut_slice(), fields)?),
+        "remaining" => tell(answers, remaining_line(table.as_slice(), fields)?),
+        "rows" => tell(answers, rows_line(table, fields)?),
+        "table" => tell(answers, table_line(table, fields)?),
+        _ => Err(Unanswered::Unreadable),
+    }
+}
+
+// The one line that a line gets.
 pub(crate) fn answer_line(
-    rt: &impl Print,
+    answers: &mut String,
+    table: &mut Vec<Row>,
     line: &[u8],
-    table: Table,
-    out: &mut [u8; 4096],
-    end: usize,
-) -> Answered {
-    if begins(line, b"setup") {
-        return set_up_line(rt, line, 5, out, end, table);
+) -> Result<(), AllocError> {
+    match answer_call(answers, table, line) {
+        Ok(()) => Ok(()),
+        Err(Unanswered::Unreadable) => answers.push_str("?\n"),
+        Err(Unanswered::NoMemory(error)) => Err(error),
     }
-    if begins(line, b"attach") {
-        return attach_line(rt, line, 6, out, end, table);
-    }
-    if begins(line, b"advertise") {
-        return advertise_line(rt, line, 9, out, end, table);
-    }
-    if begins(line, b"request") {
-        return request_line(rt, line, 7, out, end, table);
-    }
-    if begins(line, b"detach") {
-        return detach_line(rt, line, 6, out, end, table);
-    }
-    if begins(line, b"remaining") {
-        return remaining_line(rt, line, 9, out, end, table);
-    }
-    if begins(line, b"rows") {
-        return rows_line(rt, line, 4, out, end, table);
-    }
-    if begins(line, b"table") {
-        return table_line(rt, line, 5, out, end, table);
-    }
-    let told = answer_list_line(rt, line, out, end);
-    Answered { table, end: told }
 }

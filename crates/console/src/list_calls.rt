@@ -1,114 +1,74 @@
-// The calls that take a profile or a list and leave the port rows alone.
-use lines::{
-    put_field, put_listing, put_unreadable, put_verdict, take_number, take_small_number, take_word,
-};
-use object_lines::take_list;
-use rules::Profile;
+// The calls that take a profile or a list and leave the port rows alone. Each is handed the fields behind its name.
+ghost use Rattle.std.specs.Prelude.{[], ◌∷◌, ◌++◌, Some};
+ghost use Rattle.lines.specs.Numbers.{numbers_text, verdict_text};
+
+use lines::{Fields, ListingText, Unreadable, VerdictText};
+use rules::{Profile, Profiled};
+use std::fmt;
 use steps::{HalfWatts, Ma10};
 
-#[derive(Clone, Copy)]
-struct ProfileFields {
-    profile: Profile,
-    next: usize,
-}
-
 // `M P C R W F`
-fn take_profile(line: &[u8], at: usize) -> ProfileFields {
-    let max = take_number(line, at);
-    let present = take_number(line, max.next);
-    let cable = take_number(line, present.next);
-    let rounding = take_small_number(line, cable.next);
-    let pps = take_small_number(line, rounding.next);
-    let flags = take_small_number(line, pps.next);
-    let profile = Profile {
-        max: HalfWatts(max.value),
-        present: HalfWatts(present.value),
-        cable: Ma10(cable.value),
-        rounding: rounding.value,
-        pps: pps.value,
-        flags: flags.value,
-    };
-    ProfileFields {
-        profile,
-        next: flags.next,
+fn take_profile(fields: &mut Fields<'_>) -> Result<Profile, Unreadable> {
+    Ok(Profile {
+        max: HalfWatts(fields.number()?),
+        present: HalfWatts(fields.number()?),
+        cable: Ma10(fields.number()?),
+        rounding: fields.number()?,
+        pps: fields.number()?,
+        flags: fields.number()?,
+    })
+}
+
+// The verdict, and the six numbers of the profile.
+#[derive(Clone, Copy)]
+pub(crate) struct DefaultText(Profiled);
+
+impl fmt::Display for DefaultText {
+    ghost output = { λ d. Some (verdict_text d.0.verdict.number d.0.verdict.place ++ numbers_text (d.0.profile.max.0 ∷ d.0.profile.present.0 ∷ d.0.profile.cable.0 ∷ d.0.profile.rounding ∷ d.0.profile.pps ∷ d.0.profile.flags ∷ [])) };
+
+    fn fmt<W: fmt::Write>(&self, f: &mut fmt::Formatter<W>) -> fmt::Result {
+        let Profiled { verdict, profile } = self.0;
+        let Profile {
+            max,
+            present,
+            cable,
+            rounding,
+            pps,
+            flags,
+        } = profile;
+        write!(
+            f,
+            "{} {} {} {} {rounding} {pps} {flags}",
+            VerdictText(verdict),
+            max.0,
+            present.0,
+            cable.0
+        )
     }
 }
 
-fn put_profile(rt: &impl Print, out: &mut [u8; 4096], end: usize, profile: Profile) -> usize {
-    let max = put_field(rt, out, end, profile.max.0);
-    let present = put_field(rt, out, max, profile.present.0);
-    let cable = put_field(rt, out, present, profile.cable.0);
-    let rounding = put_field(rt, out, cable, profile.rounding as u16);
-    let pps = put_field(rt, out, rounding, profile.pps as u16);
-    put_field(rt, out, pps, profile.flags as u16)
+pub(crate) fn default_line(mut fields: Fields<'_>) -> Result<DefaultText, Unreadable> {
+    let max = HalfWatts(fields.number()?);
+    fields.end()?;
+    Ok(DefaultText(rules::default_profile(max)))
 }
 
-// Each line function is handed where the word that names the call ended.
-pub(crate) fn default_line(
-    rt: &impl Print,
-    line: &[u8],
-    at: usize,
-    out: &mut [u8; 4096],
-    end: usize,
-) -> usize {
-    let max = take_number(line, at);
-    if max.next != line.len() {
-        return put_unreadable(rt, out, end);
-    }
-    let answer = rules::default_profile(HalfWatts(max.value));
-    let verdict = answer.verdict;
-    let profile = answer.profile;
-    let told = put_verdict(rt, out, end, verdict);
-    put_profile(rt, out, told, profile)
+pub(crate) fn build_line(mut fields: Fields<'_>) -> Result<ListingText, Unreadable> {
+    let profile = take_profile(&mut fields)?;
+    fields.end()?;
+    Ok(ListingText(rules::build(profile)))
 }
 
-pub(crate) fn build_line(
-    rt: &impl Print,
-    line: &[u8],
-    at: usize,
-    out: &mut [u8; 4096],
-    end: usize,
-) -> usize {
-    let fields = take_profile(line, at);
-    if fields.next != line.len() {
-        return put_unreadable(rt, out, end);
-    }
-    let profile = fields.profile;
-    let answer = rules::build(profile);
-    put_listing(rt, out, end, answer)
+pub(crate) fn check_line(mut fields: Fields<'_>) -> Result<VerdictText, Unreadable> {
+    let profile = take_profile(&mut fields)?;
+    let list = fields.list()?;
+    fields.end()?;
+    Ok(VerdictText(rules::check(profile, list)))
 }
 
-pub(crate) fn check_line(
-    rt: &impl Print,
-    line: &[u8],
-    at: usize,
-    out: &mut [u8; 4096],
-    end: usize,
-) -> usize {
-    let port = take_profile(line, at);
-    let fields = take_list(line, port.next);
-    if fields.next != line.len() {
-        return put_unreadable(rt, out, end);
-    }
-    let profile = port.profile;
-    let list = fields.list;
-    let answer = rules::check(profile, list);
-    put_verdict(rt, out, end, answer)
-}
-
-pub(crate) fn answer_call_line(
-    rt: &impl Print,
-    line: &[u8],
-    at: usize,
-    out: &mut [u8; 4096],
-    end: usize,
-) -> usize {
-    let fields = take_list(line, at);
-    let request = take_word(line, fields.next);
-    if request.next != line.len() {
-        return put_unreadable(rt, out, end);
-    }
-    let list = fields.list;
-    let answer = requests::answer(list, request.value);
-    put_verdict(rt, out, end, answer)
+pub(crate) fn answer_call_line(mut fields: Fields<'_>) -> Result<VerdictText, Unreadable> {
+    let list = fields.list()?;
+    let word = fields.word()?;
+    fields.end()?;
+    Ok(VerdictText(requests::answer(list, word)))
 }

@@ -9,5 +9,8 @@ mod serving;
 mod table;
 
 fn main(rt: HostRuntime) {
-    serving::serve(&rt);
+    // The program ends with status 0 whatever happened, so it says here what it could not do.
+    if let Err(stop) = serving::serve(&rt) {
+        let _ = eprintln!(&rt; "console: {stop}");
+    }
 }

@@ -1,174 +1,120 @@
 // From standard input to standard output, a block at a time.
-use crate::answering::answer_line;
-use crate::table::{Table, no_rows};
-use lines::{flush, put, put_unreadable};
+use crate::answering::{LONGEST_LINE, answer_line};
+use ports::Row;
+use std::alloc::{AllocError, Global};
+use std::fmt;
 use std::io::Read;
 
-// The console between two bytes. `length` counts the bytes of the line so far, and stays at 513 for a line of more than
-// 512; `end` is where the bytes that wait to be written end; `open` is false once the input has ended or nothing can be
-// written any more.
-#[derive(Clone, Copy)]
+// Why the console stops before the end of its input.
+#[derive(Clone, Copy, Debug)]
+pub(crate) enum Stop {
+    Unread,
+    Unwritten,
+    OutOfMemory,
+}
+
+impl From<AllocError> for Stop {
+    fn from(_error: AllocError) -> Stop {
+        Stop::OutOfMemory
+    }
+}
+
+impl fmt::Display for Stop {
+    fn fmt<W: fmt::Write>(&self, f: &mut fmt::Formatter<W>) -> fmt::Result {
+        f.write_str(match self {
+            Stop::Unread => "standard input cannot be read",
+            Stop::Unwritten => "standard output cannot be written",
+            Stop::OutOfMemory => "out of memory",
+        })
+    }
+}
+
+// The console between two bytes.
+#[derive(Drop)]
 struct Console {
-    table: Table,
-    length: usize,
-    end: usize,
-    open: bool,
+    // The port rows. At the start there are none.
+    table: Vec<Row>,
+    // The line so far. Of a line that is too long only so much is kept that this can be seen.
+    line: Vec<u8>,
+    // What was answered and is not yet written.
+    answers: String,
 }
 
-// A line of more than 512 bytes cannot be read.
-const TOO_LONG: usize = 513;
-
-// Answers the line in hand and begins the next one.
-fn end_line(rt: &impl Print, line: &[u8], out: &mut [u8; 4096], console: Console) -> Console {
-    let table = console.table;
-    let length = console.length;
-    if line.len() < length {
-        let told = put_unreadable(rt, out, console.end);
-        let end = put(rt, out, told, b'\n');
-        return Console {
-            table,
-            length: 0,
-            end,
-            open: console.open,
-        };
-    }
-    let answered = answer_line(rt, &line[0..length], table, out, console.end);
-    let end = put(rt, out, answered.end, b'\n');
-    let after = answered.table;
-    Console {
-        table: after,
-        length: 0,
-        end,
-        open: console.open,
-    }
-}
-
-fn take_byte(
-    rt: &impl Print,
-    b: u8,
-    line: &mut [u8; 512],
-    out: &mut [u8; 4096],
-    console: Console,
-) -> Console {
-    if b == b'\n' {
-        return end_line(rt, &*line, out, console);
-    }
-    let mut longer = console;
-    let length = console.length;
-    if length < 512 {
-        line[length] = b;
-        longer.length = length + 1;
-        return longer;
-    }
-    longer.length = TOO_LONG;
-    longer
-}
-
-fn take_block(
-    rt: &impl Print,
-    block: &[u8],
-    line: &mut [u8; 512],
-    out: &mut [u8; 4096],
-    console: Console,
-) -> Console {
-    let mut now = console;
-    let mut i = 0;
-    while i < block.len() {
-        now = take_byte(rt, block[i], line, out, now);
-        i += 1;
-    }
-    now
-}
-
-fn closed(console: Console) -> Console {
-    let mut now = console;
-    now.open = false;
-    now
-}
-
-// The program ends with status 0 whatever happened, so it says here what it could not do.
-fn tell(rt: &impl Eprint, text: &str) {
-    let _ = rt.eprint(text);
-}
-
-fn tell_unwritten(rt: &impl Eprint) {
-    tell(rt, "console: standard output cannot be written\n");
-}
-
-// What cannot be written is not written again, and no more lines are answered.
-fn broken_off(console: Console) -> Console {
-    let mut now = closed(console);
-    now.length = 0;
-    now.end = 0;
-    now
-}
-
-// Writes what waits, so that whoever typed the last line sees its answer, and then reads one block.
-fn serve_block(
-    rt: &(impl Print + Eprint),
-    input: &mut impl Read,
-    line: &mut [u8; 512],
-    out: &mut [u8; 4096],
-    console: Console,
-) -> Console {
-    if !flush(rt, &*out, console.end) {
-        tell_unwritten(rt);
-        return broken_off(console);
-    }
-    let mut flushed = console;
-    flushed.end = 0;
-    let mut block = [0u8; 4096];
-    let got = input.read(&mut block);
-    let Ok(n) = got else {
-        tell(rt, "console: standard input cannot be read\n");
-        return closed(flushed);
-    };
-    if n == 0 {
-        return closed(flushed);
-    }
-    take_block(rt, &block[..n], line, out, flushed)
-}
-
-// A proved loop has to end, and nothing says that the input does. The turns are more than any run uses up.
-fn serve_blocks(
-    rt: &(impl Print + Eprint),
-    input: &mut impl Read,
-    line: &mut [u8; 512],
-    out: &mut [u8; 4096],
-) -> Console {
-    let table = no_rows();
-    let mut console = Console {
-        table,
-        length: 0,
-        end: 0,
-        open: true,
-    };
-    let mut turns = u64::MAX;
-    while turns > 0 {
-        if !console.open {
-            return console;
+impl Console {
+    fn new(alloc: Global) -> Console {
+        Console {
+            table: Vec::new(alloc),
+            line: Vec::new(alloc),
+            answers: String::new(alloc),
         }
-        console = serve_block(rt, input, line, out, console);
-        turns -= 1;
     }
-    console
+
+    fn lengthen_line(&mut self, bytes: &[u8]) -> Result<(), AllocError> {
+        let room = (LONGEST_LINE + 1).saturating_sub(self.line.len());
+        let kept = bytes.get(..room).unwrap_or(bytes);
+        self.line.extend_from_slice(kept)?;
+        Ok(())
+    }
+
+    // Answers the line in hand and begins the next one.
+    fn end_line(&mut self) -> Result<(), AllocError> {
+        answer_line(&mut self.answers, &mut self.table, self.line.as_slice())?;
+        self.line.clear();
+        Ok(())
+    }
+
+    fn take_block(&mut self, block: &[u8]) -> Result<(), AllocError> {
+        for part in block.split_inclusive(|b| *b == b'\n') {
+            match part.strip_suffix(b"\n") {
+                Some(end) => {
+                    self.lengthen_line(end)?;
+                    self.end_line()?;
+                }
+                None => self.lengthen_line(part)?,
+            }
+        }
+        Ok(())
+    }
+
+    // The end of the input ends the last line too, if there are bytes in it.
+    fn end_input(&mut self) -> Result<(), AllocError> {
+        if self.line.is_empty() {
+            return Ok(());
+        }
+        self.end_line()
+    }
+
+    fn write_answers(&mut self, rt: &impl Print) -> Result<(), Stop> {
+        rt.write_all(self.answers.as_bytes())
+            .map_err(|_| Stop::Unwritten)?;
+        self.answers.clear();
+        Ok(())
+    }
 }
 
-// The end of the input ends the console. A line that it cuts off is answered first.
-fn end_input(rt: &(impl Print + Eprint), line: &[u8; 512], out: &mut [u8; 4096], console: Console) {
-    if console.length == 0 {
-        return;
+// Reads to the end of the input. Whoever typed a line sees its answer before the console waits for more.
+fn serve_blocks(rt: &impl Print, input: &mut impl Read, console: &mut Console) -> Result<(), Stop> {
+    // A proved loop has to end, and nothing says that the input does. The turns are more than any run uses up.
+    for _ in 0..u64::MAX {
+        console.write_answers(rt)?;
+        let mut block = [0u8; 4096];
+        let length = input.read(&mut block).map_err(|_| Stop::Unread)?;
+        if length == 0 {
+            break;
+        }
+        console.take_block(&block[..length])?;
     }
-    let last = end_line(rt, line, out, console);
-    if !flush(rt, &*out, last.end) {
-        tell_unwritten(rt);
-    }
+    Ok(())
 }
 
-pub(crate) fn serve(rt: &(impl Print + Eprint + Input)) {
+pub(crate) fn serve(rt: &(impl Print + Input + AllocGlobal)) -> Result<(), Stop> {
     let mut input = rt.reader();
-    let mut line = [0u8; 512];
-    let mut out = [0u8; 4096];
-    let console = serve_blocks(rt, &mut input, &mut line, &mut out);
-    end_input(rt, &line, &mut out, console);
+    let mut console = Console::new(rt.alloc());
+    let served = serve_blocks(rt, &mut input, &mut console);
+    // What was read before it could be read no further is answered.
+    if matches!(served, Ok(()) | Err(Stop::Unread)) {
+        console.end_input()?;
+        console.write_answers(rt)?;
+    }
+    served
 }

@@ -1,184 +1,80 @@
 // The console's own port rows: `rows` sets them, `table` tells them.
-ghost use Rattle.std.specs.Prelude.{◌≡◌, ◌<◌, set};
+ghost use Rattle.std.specs.Prelude.{[], ◌∷◌, ◌++◌, Some, codes};
+ghost use Rattle.lines.specs.Numbers.{numbers_text};
 
-use lines::{put_field, put_text, put_unreadable, take_number, take_small_number};
-use ports::{NO_ROW, Row};
+use crate::answering::Unanswered;
+use lines::{Fields, Unreadable};
+use ports::Row;
+use std::fmt;
 use steps::{HalfWatts, Ma10};
 
-// Up to nine rows, one more than the sharing calls take, so that a table too long can be shown to be refused.
+// One row more than the sharing calls take, so that a table too long can be shown to be refused.
+const MOST_ROWS: usize = 9;
+
+// `M W C P HELD`
+fn take_row(fields: &mut Fields<'_>) -> Result<Row, Unreadable> {
+    Ok(Row {
+        max: HalfWatts(fields.number()?),
+        pps: fields.number()?,
+        cable: Ma10(fields.number()?),
+        present: HalfWatts(fields.number()?),
+        held: HalfWatts(fields.number()?),
+    })
+}
+
+// How many rows there are.
 #[derive(Clone, Copy)]
-pub(crate) struct Table {
-    pub rows: [Row; 9],
-    pub count: usize,
+pub(crate) struct CountText(usize);
+
+impl fmt::Display for CountText {
+    ghost output = { λ c. Some (codes "rows" ++ numbers_text (c.0 ∷ [])) };
+
+    fn fmt<W: fmt::Write>(&self, f: &mut fmt::Formatter<W>) -> fmt::Result {
+        write!(f, "rows {}", self.0)
+    }
 }
 
-// What a line leaves: the table, and where the bytes that wait to be written end.
+// How many rows there are, and the five numbers of each.
 #[derive(Clone, Copy)]
-pub(crate) struct Answered {
-    pub table: Table,
-    pub end: usize,
-}
+pub(crate) struct TableText<'a>(&'a [Row]);
 
-#[derive(Clone, Copy)]
-struct RowField {
-    row: Row,
-    next: usize,
-}
-
-#[derive(Clone, Copy)]
-struct TableFields {
-    table: Table,
-    next: usize,
-}
-
-fn row_of(max: u16, pps: u8, cable: u16, present: u16, held: u16) -> Row {
-    Row {
-        max: HalfWatts(max),
-        pps,
-        cable: Ma10(cable),
-        present: HalfWatts(present),
-        held: HalfWatts(held),
-    }
-}
-
-// Before the first `rows` line there is no row.
-pub(crate) fn no_rows() -> Table {
-    Table {
-        rows: [NO_ROW; 9],
-        count: 0,
-    }
-}
-
-// Puts a row in its place. A place past the ninth has none.
-pub(crate) fn with_row(table: Table, at: usize, row: Row) -> Table
-    ensures count { result.count ≡ table.count }
-    ensures placed { at < 9 → result.rows ≡ set table.rows at row }
-{
-    if 8 < at {
-        return table;
-    }
-    let mut rows = table.rows;
-    rows[at] = row;
-    Table {
-        rows,
-        count: table.count,
-    }
-}
-
-fn with_count(table: Table, count: usize) -> Table {
-    let rows = table.rows;
-    Table { rows, count }
-}
-
-// The row at a place, and no row past the ninth.
-pub(crate) fn row_at(table: Table, at: usize) -> Row {
-    let rows = table.rows;
-    if at < 9 { rows[at] } else { NO_ROW }
-}
-
-pub(crate) fn unreadable(
-    rt: &impl Print,
-    out: &mut [u8; 4096],
-    end: usize,
-    table: Table,
-) -> Answered {
-    let told = put_unreadable(rt, out, end);
-    Answered { table, end: told }
-}
-
-// M W C P HELD
-fn take_row(line: &[u8], at: usize) -> RowField {
-    let max = take_number(line, at);
-    let pps = take_small_number(line, max.next);
-    let cable = take_number(line, pps.next);
-    let present = take_number(line, cable.next);
-    let held = take_number(line, present.next);
-    let row = row_of(max.value, pps.value, cable.value, present.value, held.value);
-    RowField {
-        row,
-        next: held.next,
-    }
-}
-
-// Five numbers a row, for none to nine rows.
-fn take_table(line: &[u8], at: usize) -> TableFields {
-    let mut table = no_rows();
-    let mut next = at;
-    let mut count: usize = 0;
-    while count < 9 {
-        if next == line.len() {
-            return TableFields { table, next };
+impl fmt::Display for TableText<'_> {
+    fn fmt<W: fmt::Write>(&self, f: &mut fmt::Formatter<W>) -> fmt::Result {
+        write!(f, "{}", CountText(self.0.len()))?;
+        for row in self.0 {
+            let Row {
+                max,
+                pps,
+                cable,
+                present,
+                held,
+            } = *row;
+            write!(f, " {} {pps} {} {} {}", max.0, cable.0, present.0, held.0)?;
         }
-        let field = take_row(line, next);
-        let row = field.row;
-        let longer = with_row(table, count, row);
-        next = field.next;
-        count += 1;
-        table = with_count(longer, count);
+        Ok(())
     }
-    TableFields { table, next }
 }
 
-fn put_row_count(rt: &impl Print, out: &mut [u8; 4096], end: usize, table: Table) -> usize {
-    let at = put_text(rt, out, end, b"rows");
-    // At most 9; the remainder only shows that it fits.
-    put_field(rt, out, at, (table.count % 65536) as u16)
-}
-
-fn put_row(rt: &impl Print, out: &mut [u8; 4096], end: usize, row: Row) -> usize {
-    let max = put_field(rt, out, end, row.max.0);
-    let pps = put_field(rt, out, max, row.pps as u16);
-    let cable = put_field(rt, out, pps, row.cable.0);
-    let present = put_field(rt, out, cable, row.present.0);
-    put_field(rt, out, present, row.held.0)
-}
-
-fn put_table(rt: &impl Print, out: &mut [u8; 4096], end: usize, table: Table) -> usize {
-    let count = table.count;
-    let mut at = put_row_count(rt, out, end, table);
-    let mut i: usize = 0;
-    while i < 9 {
-        if i < count {
-            let row = row_at(table, i);
-            at = put_row(rt, out, at, row);
-        }
-        i += 1;
-    }
-    at
-}
-
-// Each line function is handed where the word that names the call ended.
+// Five numbers a row, for none to nine rows. They come in place of those before.
 pub(crate) fn rows_line(
-    rt: &impl Print,
-    line: &[u8],
-    at: usize,
-    out: &mut [u8; 4096],
-    end: usize,
-    table: Table,
-) -> Answered {
-    let fields = take_table(line, at);
-    if fields.next != line.len() {
-        return unreadable(rt, out, end, table);
+    table: &mut Vec<Row>,
+    mut fields: Fields<'_>,
+) -> Result<CountText, Unanswered> {
+    let mut rows = Vec::new(*table.allocator());
+    for _ in 0..MOST_ROWS {
+        if !fields.is_at_end() {
+            rows.push(take_row(&mut fields)?)?;
+        }
     }
-    let new = fields.table;
-    let told = put_row_count(rt, out, end, new);
-    Answered {
-        table: new,
-        end: told,
-    }
+    fields.end()?;
+    *table = rows;
+    Ok(CountText(table.len()))
 }
 
-pub(crate) fn table_line(
-    rt: &impl Print,
-    line: &[u8],
-    at: usize,
-    out: &mut [u8; 4096],
-    end: usize,
-    table: Table,
-) -> Answered {
-    if at != line.len() {
-        return unreadable(rt, out, end, table);
-    }
-    let told = put_table(rt, out, end, table);
-    Answered { table, end: told }
+pub(crate) fn table_line<'a>(
+    table: &'a Vec<Row>,
+    fields: Fields<'_>,
+) -> Result<TableText<'a>, Unreadable> {
+    fields.end()?;
+    Ok(TableText(table.as_slice()))
 }

@@ -2,3 +2,6 @@ pub mod Appending
 pub mod Lengths
 pub mod HexDigits
 pub mod Places
+pub mod Digits
+pub mod HexWord
+pub mod Telling

@@ -1,98 +1,72 @@
-// What is told. Bytes wait in a buffer until it is full, or until the console has to wait for input.
-ghost use Rattle.std.specs.Prelude.{◌+◌, ◌≤◌};
+// What is told, as it is printed.
+ghost use Rattle.std.specs.Prelude.{[], ◌++◌, ◌∷◌, Some};
+ghost use Rattle.lines.specs.Numbers.{numbers_text, verdict_text};
+ghost use Rattle.lines.specs.Text.{hex_word, places_text};
 
-use crate::text::{HEX_DIGITS, put_byte, put_decimal, put_places};
+use crate::text::places_that_count;
 use lists::{Listing, Words};
+use std::fmt;
 use verdicts::Verdict;
 
-// Writes the bytes that wait, and tells whether they could be written.
-pub fn flush(rt: &impl Print, out: &[u8], end: usize) -> bool {
-    if out.len() < end {
-        return false;
-    }
-    rt.write_all(&out[0..end]).is_ok()
-}
-
-// `end` is where the bytes that wait end. Each `put` gives it anew.
-
-// A place with room for so many bytes. What waits is written where they would not fit; a write that fails here fails again at the next
-// flush, which tells.
-fn place_for(rt: &impl Print, out: &[u8; 4096], end: usize, room: usize) -> usize
-    requires { room ≤ 4096 }
-    ensures { result + room ≤ 4096 }
-{
-    if end <= 4096 - room {
-        return end;
-    }
-    flush(rt, &*out, end);
-    0
-}
-
-pub fn put(rt: &impl Print, out: &mut [u8; 4096], end: usize, b: u8) -> usize {
-    let at = place_for(rt, &*out, end, 1);
-    put_byte(&mut *out, at, b)
-}
-
-pub fn put_text(rt: &impl Print, out: &mut [u8; 4096], end: usize, text: &[u8]) -> usize {
-    let mut at = end;
-    let mut i = 0;
-    while i < text.len() {
-        at = put(rt, out, at, text[i]);
-        i += 1;
-    }
-    at
-}
-
-pub fn put_number(rt: &impl Print, out: &mut [u8; 4096], end: usize, n: u16) -> usize {
-    let at = place_for(rt, &*out, end, 5);
-    put_decimal(&mut *out, at, n)
-}
-
-pub fn put_hex_byte(rt: &impl Print, out: &mut [u8; 4096], end: usize, byte: u8) -> usize {
-    let digits = HEX_DIGITS;
-    let high = put(rt, out, end, digits[(byte / 16) as usize]);
-    put(rt, out, high, digits[(byte % 16) as usize])
-}
-
-// A number that is not the first of its line.
-pub fn put_field(rt: &impl Print, out: &mut [u8; 4096], end: usize, n: u16) -> usize {
-    let at = put(rt, out, end, b' ');
-    put_number(rt, out, at, n)
-}
-
-// A line that cannot be read.
-pub fn put_unreadable(rt: &impl Print, out: &mut [u8; 4096], end: usize) -> usize {
-    put(rt, out, end, b'?')
-}
-
 // The number and the place, with which every answer begins.
-pub fn put_verdict(rt: &impl Print, out: &mut [u8; 4096], end: usize, verdict: Verdict) -> usize {
-    let at = put_number(rt, out, end, verdict.number as u16);
-    put_field(rt, out, at, verdict.place as u16)
+#[derive(Clone, Copy)]
+pub struct VerdictText(pub Verdict);
+
+impl fmt::Display for VerdictText {
+    ghost output = { λ v. Some (verdict_text v.0.number v.0.place) };
+
+    fn fmt<W: fmt::Write>(&self, f: &mut fmt::Formatter<W>) -> fmt::Result {
+        write!(f, "{} {}", self.0.number, self.0.place)
+    }
 }
 
-// As many words as count.
-pub fn put_words(
-    rt: &impl Print,
-    out: &mut [u8; 4096],
-    end: usize,
-    words: [u32; 7],
-    count: u8,
-) -> usize {
-    let at = place_for(rt, &*out, end, 63);
-    put_places(&mut *out, at, words, count)
+// A space and the word.
+#[derive(Clone, Copy)]
+struct PlaceText(u32);
+
+impl fmt::Display for PlaceText {
+    ghost output = { λ w. Some (32 ∷ hex_word w.0) };
+
+    #[tactic(auto, using(crate::proofs::HexWord::padded_hex_word))]
+    fn fmt<W: fmt::Write>(&self, f: &mut fmt::Formatter<W>) -> fmt::Result {
+        let word = self.0;
+        write!(f, " {word:08X}")
+    }
 }
 
-// The count and as many words.
-fn put_list(rt: &impl Print, out: &mut [u8; 4096], end: usize, list: Words) -> usize {
-    let at = put_field(rt, out, end, list.count as u16);
-    let words = list.words;
-    put_words(rt, out, at, words, list.count)
+// As many words as count, with a space before each.
+#[derive(Clone, Copy)]
+pub struct WordsText {
+    pub words: [u32; 7],
+    pub count: u8,
 }
 
-pub fn put_listing(rt: &impl Print, out: &mut [u8; 4096], end: usize, listing: Listing) -> usize {
-    let verdict = listing.verdict;
-    let list = listing.list;
-    let at = put_verdict(rt, out, end, verdict);
-    put_list(rt, out, at, list)
+impl fmt::Display for WordsText {
+    ghost output = { λ t. Some (places_text t.words t.count 7) };
+
+    fn fmt<W: fmt::Write>(&self, f: &mut fmt::Formatter<W>) -> fmt::Result {
+        for word in &self.words[..places_that_count(self.count)] {
+            write!(f, "{}", PlaceText(*word))?;
+        }
+        Ok(())
+    }
+}
+
+// The verdict, the count and as many words.
+#[derive(Clone, Copy)]
+pub struct ListingText(pub Listing);
+
+impl fmt::Display for ListingText {
+    ghost output = { λ t. Some (verdict_text t.0.verdict.number t.0.verdict.place ++ numbers_text (t.0.list.count ∷ []) ++ places_text t.0.list.words t.0.list.count 7) };
+
+    fn fmt<W: fmt::Write>(&self, f: &mut fmt::Formatter<W>) -> fmt::Result {
+        let Listing { verdict, list } = self.0;
+        let Words { words, count } = list;
+        write!(
+            f,
+            "{} {count}{}",
+            VerdictText(verdict),
+            WordsText { words, count }
+        )
+    }
 }

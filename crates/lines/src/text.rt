@@ -1,15 +1,16 @@
-// Text put into a block of bytes at a place: what both programs print with. Each function answers the place after its text.
+// Text put into a block of bytes at a place, as `caps` prints it: each function answers the place after its text. The block and the place
+// stay as they are, and no text that grows comes in their stead: `put_line` promises `PutWhereRoom`, on which what `caps` prints rests.
 ghost use Rattle.std.specs.Prelude.{◌≡◌, [], ◌∷◌, ◌+◌, ◌≤◌, ◌<◌, min, length};
 ghost use Rattle.lines.specs.Text.{Appended, PutWhereRoom, digit_from, decimal, hex_word, places_text, line_of};
 
-pub(crate) const HEX_DIGITS: [u8; 16] = [
+const HEX_DIGITS: [u8; 16] = [
     b'0', b'1', b'2', b'3', b'4', b'5', b'6', b'7', b'8', b'9', b'A', b'B', b'C', b'D', b'E', b'F',
 ];
 
 // No line of a listing is longer: two numbers of three digits, a space and a line end, seven words with a space before each.
 pub const LONGEST: usize = 71;
 
-pub(crate) fn put_byte(out: &mut [u8], at: usize, byte: u8) -> usize
+fn put_byte(out: &mut [u8], at: usize, byte: u8) -> usize
     requires { at < length out.old }
     ensures { Appended out.old at (byte ∷ []) out.new result }
 {
@@ -28,7 +29,7 @@ fn put_digit_from(out: &mut [u8], at: usize, n: u16, power: u16) -> usize
     put_byte(out, at, b'0' + (n / power % 10) as u8)
 }
 
-pub(crate) fn put_decimal(out: &mut [u8], at: usize, n: u16) -> usize
+fn put_decimal(out: &mut [u8], at: usize, n: u16) -> usize
     requires { at + 5 ≤ length out.old }
     ensures { Appended out.old at (decimal n) out.new result }
 {
@@ -39,16 +40,15 @@ pub(crate) fn put_decimal(out: &mut [u8], at: usize, n: u16) -> usize
     put_byte(out, ones, b'0' + (n % 10) as u8)
 }
 
+#[tactic(auto, unfolding(crate::specs::Text::hex_word))]
 fn put_hex_word(out: &mut [u8], at: usize, w: u32) -> usize
     requires { at + 8 ≤ length out.old }
     ensures { Appended out.old at (hex_word w) out.new result }
 {
     let digits = HEX_DIGITS;
-    let mut i: usize = 0;
-    while i < 8 {
+    for i in 0..8 {
         let digit = (w >> (28 - 4 * i)) % 16;
         out[at + i] = digits[digit as usize];
-        i += 1;
     }
     at + 8
 }
@@ -62,26 +62,20 @@ fn put_place(out: &mut [u8], at: usize, w: u32) -> usize
     put_hex_word(out, next, w)
 }
 
-fn places_that_count(count: u8) -> usize
+pub(crate) fn places_that_count(count: u8) -> usize
     ensures { result ≡ min count 7 }
 {
-    if count < 7 {
-        return count as usize;
-    }
-    7
+    usize::from(count.min(7))
 }
 
 // The words come by themselves: a whole list, copied for the call, would have to wait for the words just written.
-pub(crate) fn put_places(out: &mut [u8], at: usize, words: [u32; 7], count: u8) -> usize
+fn put_places(out: &mut [u8], at: usize, words: [u32; 7], count: u8) -> usize
     requires { at + 63 ≤ length out.old }
     ensures { Appended out.old at (places_text words count 7) out.new result }
 {
-    let places = places_that_count(count);
     let mut next = at;
-    let mut i = 0;
-    while i < places {
+    for i in 0..places_that_count(count) {
         next = put_place(out, next, words[i]);
-        i += 1;
     }
     next
 }

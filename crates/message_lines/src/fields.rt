@@ -1,95 +1,54 @@
-// The fields of a message. As in `lines`, a field is read with the one space before it, and `next` is where it ended.
-ghost use Rattle.std.specs.Prelude.{◌≡◌, ◌≤◌, length};
-
-use lines::{UNREADABLE, hex_byte, past_space, take_small_number};
+// The fields of a message.
+use arrayvec::ArrayVec;
+use lines::{Fields, Unreadable};
 use messages::Header;
 
 // The most bytes that a line can have, typed or lent.
 pub(crate) const MOST_BYTES: usize = 40;
 
-#[derive(Clone, Copy)]
-pub(crate) struct ByteFields {
-    pub bytes: [u8; 40],
-    pub count: usize,
-    pub next: usize,
+pub(crate) type Bytes = ArrayVec<u8, MOST_BYTES>;
+
+// What the console fills the buffer with before the call.
+const FILL: u8 = 0xAA;
+
+// The same byte so often, and forty times where that is less.
+fn filled(byte: u8, length: usize) -> Bytes {
+    let mut bytes = ArrayVec::from([byte; MOST_BYTES]);
+    bytes.truncate(length);
+    bytes
 }
 
-#[derive(Clone, Copy)]
-pub(crate) struct HeaderFields {
-    pub header: Header,
-    pub next: usize,
+// Hex digits, two for each byte, or `-` for no byte. Half a byte and a byte past the fortieth are left over.
+pub(crate) fn take_bytes(fields: &mut Fields<'_>) -> Result<Bytes, Unreadable> {
+    let digits = match fields.text()? {
+        "" => return Err(Unreadable),
+        "-" => "",
+        text => text,
+    };
+    let mut bytes = filled(0, digits.len() / 2);
+    hex::decode_to_slice(digits, bytes.as_mut_slice()).map_err(|_| Unreadable)?;
+    Ok(bytes)
 }
 
-// Two digits for each byte. What stands past the fortieth, or is half a byte, is left over, and makes the line unreadable.
-fn bytes_from(line: &[u8], start: usize) -> ByteFields
-    ensures { (result.count ≤ 40) × (length result.bytes ≡ 40) }
-{
-    let mut bytes = [0u8; 40];
-    let mut count: usize = 0;
-    let mut next = start;
-    while count < MOST_BYTES {
-        let byte = hex_byte(line, next);
-        if 255 < byte {
-            return ByteFields { bytes, count, next };
-        }
-        bytes[count] = byte as u8;
-        count += 1;
-        next += 2;
+// The buffer that is lent, which has so many bytes.
+pub(crate) fn take_room(fields: &mut Fields<'_>) -> Result<Bytes, Unreadable> {
+    let room: u8 = fields.number()?;
+    let room = usize::from(room);
+    if MOST_BYTES < room {
+        return Err(Unreadable);
     }
-    ByteFields { bytes, count, next }
-}
-
-// Hex digits, or `-` for no byte.
-pub(crate) fn take_bytes(line: &[u8], at: usize) -> ByteFields
-    ensures { (result.count ≤ 40) × (length result.bytes ≡ 40) }
-{
-    let start = past_space(line, at);
-    let typed = bytes_from(line, start);
-    if 0 < typed.count {
-        return typed;
-    }
-    let bytes = [0u8; 40];
-    if line.len() <= start {
-        return ByteFields {
-            bytes,
-            count: 0,
-            next: UNREADABLE,
-        };
-    }
-    if line[start] != b'-' {
-        return ByteFields {
-            bytes,
-            count: 0,
-            next: UNREADABLE,
-        };
-    }
-    ByteFields {
-        bytes,
-        count: 0,
-        next: start + 1,
-    }
+    Ok(filled(FILL, room))
 }
 
 // `EXT COUNT ID PROLE REV DROLE TYPE`
-pub(crate) fn take_header(line: &[u8], at: usize) -> HeaderFields {
-    let extended = take_small_number(line, at);
-    let count = take_small_number(line, extended.next);
-    let id = take_small_number(line, count.next);
-    let power_role = take_small_number(line, id.next);
-    let revision = take_small_number(line, power_role.next);
-    let data_role = take_small_number(line, revision.next);
-    let message_type = take_small_number(line, data_role.next);
-    let header = Header {
-        extended: extended.value,
-        count: count.value,
-        id: id.value,
-        power_role: power_role.value,
-        revision: revision.value,
-        data_role: data_role.value,
-        message_type: message_type.value,
-    };
-    HeaderFields {
-        header,
-        next: message_type.next,
-    }
+pub(crate) fn take_header(fields: &mut Fields<'_>) -> Result<Header, Unreadable> {
+    Ok(Header {
+        extended: fields.number()?,
+        count: fields.number()?,
+        id: fields.number()?,
+        power_role: fields.number()?,
+        revision: fields.number()?,
+        data_role: fields.number()?,
+        message_type: fields.number()?,
+    })
 }

@@ -7,3 +7,4 @@ mod fields;
 mod telling;
 
 pub use calls::{read_message_line, take_message_line, write_message_line};
+pub use telling::{MessageText, WrittenText};

@@ -1,48 +1,75 @@
 // What is told of a message and of a buffer.
-use lines::{put, put_field, put_hex_byte, put_verdict, put_words};
-use messages::{Header, MessageReading};
+ghost use Rattle.std.specs.Prelude.{◌++◌, Some};
+ghost use Rattle.lines.specs.Numbers.{verdict_text};
+ghost use Rattle.message_lines.specs.Telling.{header_text, message_text};
 
-fn put_header(rt: &impl Print, out: &mut [u8; 4096], end: usize, header: Header) -> usize {
-    let extended = put_field(rt, out, end, header.extended as u16);
-    let count = put_field(rt, out, extended, header.count as u16);
-    let id = put_field(rt, out, count, header.id as u16);
-    let power_role = put_field(rt, out, id, header.power_role as u16);
-    let revision = put_field(rt, out, power_role, header.revision as u16);
-    let data_role = put_field(rt, out, revision, header.data_role as u16);
-    put_field(rt, out, data_role, header.message_type as u16)
+use crate::fields::Bytes;
+use lines::{VerdictText, WordsText};
+use messages::{Header, Message, MessageReading, Written};
+use std::fmt;
+
+// A space before each of the header's seven numbers.
+#[derive(Clone, Copy)]
+struct HeaderText(Header);
+
+impl fmt::Display for HeaderText {
+    ghost output = { λ h. Some (header_text h.0) };
+
+    fn fmt<W: fmt::Write>(&self, f: &mut fmt::Formatter<W>) -> fmt::Result {
+        let Header {
+            extended,
+            count,
+            id,
+            power_role,
+            revision,
+            data_role,
+            message_type,
+        } = self.0;
+        write!(
+            f,
+            " {extended} {count} {id} {power_role} {revision} {data_role} {message_type}"
+        )
+    }
 }
 
-// The header's seven numbers, and as many words as it says.
-pub(crate) fn put_message(
-    rt: &impl Print,
-    out: &mut [u8; 4096],
-    end: usize,
-    reading: MessageReading,
-) -> usize {
-    let verdict = reading.verdict;
-    let message = reading.message;
-    let header = message.header;
-    let words = message.words;
-    let told = put_verdict(rt, out, end, verdict);
-    let at = put_header(rt, out, told, header);
-    put_words(rt, out, at, words, header.count)
+// The verdict, the header's seven numbers, and as many words as it says.
+#[derive(Clone, Copy)]
+pub struct MessageText(pub MessageReading);
+
+impl fmt::Display for MessageText {
+    ghost output = { λ r. Some (verdict_text r.0.verdict.number r.0.verdict.place ++ message_text r.0.message) };
+
+    fn fmt<W: fmt::Write>(&self, f: &mut fmt::Formatter<W>) -> fmt::Result {
+        let MessageReading { verdict, message } = self.0;
+        let Message { header, words } = message;
+        let count = header.count;
+        write!(
+            f,
+            "{}{}{}",
+            VerdictText(verdict),
+            HeaderText(header),
+            WordsText { words, count }
+        )
+    }
 }
 
-// Two digits for each byte, or `-` where there is none.
-pub(crate) fn put_buffer(
-    rt: &impl Print,
-    out: &mut [u8; 4096],
-    end: usize,
-    buffer: &[u8],
-) -> usize {
-    let mut at = put(rt, out, end, b' ');
-    if buffer.len() == 0 {
-        return put(rt, out, at, b'-');
+// The verdict, the length, and the whole buffer as it is after the call: two digits for each byte, or `-` where there is none.
+#[derive(Drop)]
+pub struct WrittenText {
+    pub(crate) written: Written,
+    pub(crate) buffer: Bytes,
+}
+
+impl fmt::Display for WrittenText {
+    fn fmt<W: fmt::Write>(&self, f: &mut fmt::Formatter<W>) -> fmt::Result {
+        let Written { verdict, length } = self.written;
+        write!(f, "{} {length} ", VerdictText(verdict))?;
+        if self.buffer.is_empty() {
+            return write!(f, "-");
+        }
+        for byte in self.buffer.as_slice() {
+            write!(f, "{byte:02X}")?;
+        }
+        Ok(())
     }
-    let mut i = 0;
-    while i < buffer.len() {
-        at = put_hex_byte(rt, out, at, buffer[i]);
-        i += 1;
-    }
-    at
 }

@@ -1,56 +1,21 @@
-// Each line function is handed where the word that names the call ended.
-use crate::list_fields::take_list;
-use crate::object_fields::{put_objects, take_objects};
-use lines::{put_listing, put_unreadable, put_verdict, take_small_number};
+// The calls on lists by themselves. Each is handed the fields behind its name.
+use crate::typed_objects::{ReadingText, take_objects};
+use lines::{Fields, ListingText, Unreadable, VerdictText};
 
-pub fn shape_line(
-    rt: &impl Print,
-    line: &[u8],
-    at: usize,
-    out: &mut [u8; 4096],
-    end: usize,
-) -> usize {
-    let fields = take_list(line, at);
-    if fields.next != line.len() {
-        return put_unreadable(rt, out, end);
-    }
-    let list = fields.list;
-    let answer = lists::shape(list);
-    put_verdict(rt, out, end, answer)
+pub fn shape_line(mut fields: Fields<'_>) -> Result<VerdictText, Unreadable> {
+    let list = fields.list()?;
+    fields.end()?;
+    Ok(VerdictText(lists::shape(list)))
 }
 
-pub fn read_line(
-    rt: &impl Print,
-    line: &[u8],
-    at: usize,
-    out: &mut [u8; 4096],
-    end: usize,
-) -> usize {
-    let fields = take_list(line, at);
-    if fields.next != line.len() {
-        return put_unreadable(rt, out, end);
-    }
-    let list = fields.list;
-    let answer = lists::read(list);
-    let verdict = answer.verdict;
-    let objects = answer.list;
-    let told = put_verdict(rt, out, end, verdict);
-    put_objects(rt, out, told, objects)
+pub fn read_line(mut fields: Fields<'_>) -> Result<ReadingText, Unreadable> {
+    let list = fields.list()?;
+    fields.end()?;
+    Ok(ReadingText(lists::read(list)))
 }
 
-pub fn write_line(
-    rt: &impl Print,
-    line: &[u8],
-    at: usize,
-    out: &mut [u8; 4096],
-    end: usize,
-) -> usize {
-    let count = take_small_number(line, at);
-    let fields = take_objects(line, count.next, count.value);
-    if fields.next != line.len() {
-        return put_unreadable(rt, out, end);
-    }
-    let list = fields.list;
-    let answer = lists::write(list);
-    put_listing(rt, out, end, answer)
+pub fn write_line(mut fields: Fields<'_>) -> Result<ListingText, Unreadable> {
+    let list = take_objects(&mut fields)?;
+    fields.end()?;
+    Ok(ListingText(lists::write(list)))
 }

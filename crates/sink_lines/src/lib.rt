@@ -3,7 +3,7 @@
 #![tactic(auto)]
 
 mod calls;
-mod fields;
-mod telling;
+mod typed_objects;
 
 pub use calls::{sink_check_line, sink_read_line, sink_shape_line, sink_write_line};
+pub use typed_objects::SinkReadingText;

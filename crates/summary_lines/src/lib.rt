@@ -6,3 +6,4 @@ mod calls;
 mod telling;
 
 pub use calls::{quick_line, summary_line};
+pub use telling::SummarizedText;

@@ -1,27 +1,20 @@
-// What is told of a summary: the count, and all seven rows, those past the count too.
-use lines::put_field;
-use summaries::{ABOVE_15_V, BELOW_15_V, HIGHEST, LOWEST, Summary};
+// What is told of a summary.
+use lines::VerdictText;
+use std::fmt;
+use summaries::{Summarized, Summary};
 
-fn put_limits(rt: &impl Print, out: &mut [u8; 4096], end: usize, limits: [u16; 4]) -> usize {
-    let lowest = put_field(rt, out, end, limits[LOWEST]);
-    let highest = put_field(rt, out, lowest, limits[HIGHEST]);
-    let below = put_field(rt, out, highest, limits[BELOW_15_V]);
-    put_field(rt, out, below, limits[ABOVE_15_V])
-}
+// The verdict, the count, and the four limits of all seven rows, those past the count too, in the order in which they stand.
+#[derive(Clone, Copy)]
+pub struct SummarizedText(pub Summarized);
 
-pub(crate) fn put_summary(
-    rt: &impl Print,
-    out: &mut [u8; 4096],
-    end: usize,
-    summary: Summary,
-) -> usize {
-    let mut at = put_field(rt, out, end, summary.count as u16);
-    let rows = summaries::rows_of(summary);
-    let mut i: usize = 0;
-    while i < 7 {
-        let limits = rows[i];
-        at = put_limits(rt, out, at, limits);
-        i += 1;
+impl fmt::Display for SummarizedText {
+    fn fmt<W: fmt::Write>(&self, f: &mut fmt::Formatter<W>) -> fmt::Result {
+        let Summarized { verdict, summary } = self.0;
+        let Summary { count, rows } = summary;
+        write!(f, "{} {count}", VerdictText(verdict))?;
+        for [lowest, highest, below, above] in rows {
+            write!(f, " {lowest} {highest} {below} {above}")?;
+        }
+        Ok(())
     }
-    at
 }

@@ -1,6 +1,5 @@
 -- `lines::text::put_places` meets its contract: the invariant is that the places passed are put; those past the count have no text.
 -- Assumes nothing.
-use borrow.Author.Rules.{rules}
 use Prim.Native.Nat.{◌<◌}
 use native.Mathlib.Nat.{min-le_left, min-le_right}
 use native.Mathlib.Omega.{arith}
@@ -13,8 +12,8 @@ pub put_place-next-requires : goal.put_place-next-requires
 put_place-next-requires c =
     omega (
       arith,
-      c.loop-i.invariant.1,
-      c.places_that_count-places.ensures,
+      c.loop-i.invariant,
+      c.places_that_count-i-end.ensures,
       min-le_right c.args.count 7,
       places_length c.args.words c.args.count c.loop-i.i,
       c.requires,
@@ -23,7 +22,5 @@ put_place-next-requires c =
 pub loop-i-preserved : goal.loop-i-preserved
 loop-i-preserved c =
     let counts : c.loop-i.i < c.args.count =
-    omega (arith, c.places_that_count-places.ensures, min-le_left c.args.count 7) in (
-      search rules,
-      text_is (one_more c.args.words c.args.count c.loop-i.i counts) (joined c.loop-i.invariant.1 c.put_place-next.ensures),
-    )
+    omega (arith, c.places_that_count-i-end.ensures, min-le_left c.args.count 7) in
+    text_is (one_more c.args.words c.args.count c.loop-i.i counts) (joined c.loop-i.invariant c.put_place-next.ensures)

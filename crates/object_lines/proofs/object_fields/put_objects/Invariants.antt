@@ -1,7 +1,0 @@
--- `object_lines::object_fields::put_objects` is safe and ends. The measure is the number of places that are left.
--- Assumes nothing.
-use Prim.Native.Nat.{◌-◌}
-use Rattle.object_lines.proofs.object_fields.put_objects.Given as goal
-
-abbrev pub decreases-loop-i : goal.decreases-loop-i
-decreases-loop-i g l = 7 - l.i
