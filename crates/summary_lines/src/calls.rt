@@ -18,9 +18,9 @@ fn answer_quickly(list: Words, word: u32) -> Verdict {
         return made.verdict;
     }
     match summaries::take_request(list, word) {
-        TakenRequest::Refused(refusal) => refusal,
-        TakenRequest::Battery { .. } => requests::answer(list, word),
-        TakenRequest::Quick(asked) => summaries::answer_summary(made.summary, asked),
+        Err(refusal) => refusal,
+        Ok(TakenRequest::Battery { .. }) => requests::answer(list, word),
+        Ok(TakenRequest::Quick(asked)) => summaries::answer_summary(made.summary, asked),
     }
 }
 
