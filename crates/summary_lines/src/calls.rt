@@ -12,15 +12,12 @@ pub fn summary_line(mut fields: Fields<'_>) -> Result<SummarizedText, Unreadable
 }
 
 // The answer by way of the summary; a request to a battery object goes to the list.
-fn answer_quickly(list: Words, word: u32) -> Verdict {
+fn answered_quickly(list: Words, word: u32) -> Result<(), Verdict> {
     let made = summaries::summarize(list);
-    if made.verdict.number != verdicts::SUCCESS {
-        return made.verdict;
-    }
-    match summaries::take_request(list, word) {
-        Err(refusal) => refusal,
-        Ok(TakenRequest::Battery { .. }) => requests::answer(list, word),
-        Ok(TakenRequest::Quick(asked)) => summaries::answer_summary(made.summary, asked),
+    made.verdict.passed()?;
+    match summaries::take_request(list, word)? {
+        TakenRequest::Battery { .. } => requests::answer(list, word).passed(),
+        TakenRequest::Quick(asked) => summaries::answer_summary(made.summary, asked).passed(),
     }
 }
 
@@ -29,5 +26,5 @@ pub fn quick_line(mut fields: Fields<'_>) -> Result<VerdictText, Unreadable> {
     let list = fields.list()?;
     let word = fields.word()?;
     fields.end()?;
-    Ok(VerdictText(answer_quickly(list, word)))
+    Ok(VerdictText(Verdict::from(answered_quickly(list, word))))
 }
