@@ -1,4 +1,4 @@
--- The fields of a line lie between its spaces (docs/CONSOLE.md, "Lines and fields").
+-- The fields of a line lie between its spaces (docs/CONSOLE.md, Lines and fields).
 -- Assumes nothing.
 use Rattle.std.specs.Prelude.{◌≡◌, ◌<◌, Bool, List, ℕ, Option, ◌==◌, length, MatchOption, IfSome}
 use Rattle.std.specs.List.{before_first, after_first, position_or_len}

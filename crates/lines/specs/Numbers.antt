@@ -1,4 +1,4 @@
--- Numbers as the console tells them (docs/CONSOLE.md, "Answers"): a space and then the digits, with no zero in front.
+-- Numbers as the console tells them (docs/CONSOLE.md, Answers): a space and then the digits, with no zero in front.
 -- Assumes nothing.
 use Rattle.std.specs.Prelude.{List, [], ◌∷◌, ◌++◌, ℕ}
 use Rattle.std.specs.Fmt.{decimal}

@@ -1,4 +1,4 @@
--- What is told of a message (docs/CONSOLE.md, "Messages"): the header's seven numbers, and as many words as it says.
+-- What is told of a message (docs/CONSOLE.md, Messages): the header's seven numbers, and as many words as it says.
 -- Assumes nothing.
 use Rattle.std.specs.Prelude.{List, [], ◌∷◌, ◌++◌, ℕ}
 use Rattle.messages.specs.declared.Header.{Header}

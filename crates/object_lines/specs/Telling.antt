@@ -1,4 +1,4 @@
--- What is told of an object (docs/CONSOLE.md, "Objects"): the capital letter of its kind, and its fields in their order.
+-- What is told of an object (docs/CONSOLE.md, Objects): the capital letter of its kind, and its fields in their order.
 -- Assumes nothing.
 use Rattle.std.specs.Prelude.{List, [], ◌∷◌, ℕ}
 use Rattle.objects.specs.declared.Object.{Object}

@@ -1,4 +1,4 @@
--- What is told of a sink object (docs/CONSOLE.md, "Sink lists"): the capital letter of its kind, and its fields in their order.
+-- What is told of a sink object (docs/CONSOLE.md, Sink lists): the capital letter of its kind, and its fields in their order.
 -- Assumes nothing.
 use Rattle.std.specs.Prelude.{List, [], ◌∷◌, ℕ}
 use Rattle.sinks.specs.declared.SinkObject.{SinkObject}
