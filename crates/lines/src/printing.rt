@@ -34,7 +34,7 @@ impl fmt::Display for PlaceText {
     }
 }
 
-// As many words as count, with a space before each.
+// As many words as count, with a space before each. An array with a count, as a list and a message of C have them.
 #[derive(Clone, Copy)]
 pub struct WordsText {
     pub words: [u32; 7],

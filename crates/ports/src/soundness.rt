@@ -6,6 +6,7 @@ ghost use Rattle.ports.specs.Soundness.{sound_empty, sound_attached, sound_row};
 ghost use Rattle.ports.specs.Refusing.{fresh_row, fault_row};
 
 use crate::Row;
+use steps::HalfWatts;
 use verdicts::Verdict;
 
 fn sound_empty(row: Row) -> bool
@@ -19,10 +20,10 @@ fn sound_attached(row: Row) -> bool
     ensures { result ≡ (within 15 200 row.max.0 && sound_attached row) }
 {
     !rules::bad_cable(row.cable)
-        && 15 <= row.held.0
-        && row.held.0 <= row.present.0
-        && row.present.0 <= row.max.0
-        && row.max.0 <= 200
+        && HalfWatts(15) <= row.held
+        && row.held <= row.present
+        && row.present <= row.max
+        && row.max <= HalfWatts(200)
 }
 
 #[tactic(auto, unfolding(crate::specs::Soundness::sound_row))]

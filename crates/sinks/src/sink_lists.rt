@@ -26,7 +26,8 @@ fn place_of(w: u32) -> SinkPlace
     }
 }
 
-// The sink objects of so many words, each in its place; empty places past them.
+// The sink objects of so many words, each in its place; empty places past them. As `lists` and `flat` have it for their structs: one function for
+// all three would be over an array of a type parameter.
 fn decode_words(list: Words, count: u8) -> SinkObjects
     requires { count ≤ 7 }
     ensures { result ≡ sink_objects_to list.words count }

@@ -16,7 +16,8 @@ use steps::{Ma10, Ma50, Mv20, Mv25};
 pub use taking::take_request;
 use verdicts::Verdict;
 
-// Where each limit stands in its row: the lowest voltage, in mV.
+// Where each limit stands in its row: the lowest voltage, in mV. These are indices and no enum, since a row is C's array; inside the crate a row is
+// a `Limits`.
 pub const LOWEST: usize = 0;
 
 // The highest voltage, in mV.
@@ -28,7 +29,8 @@ pub const BELOW_15_V: usize = 2;
 // The greatest current above 15.0 V, in mA.
 pub const ABOVE_15_V: usize = 3;
 
-// What is kept beside a list: its count, and four limits for each of its seven places. Rows past the count are zero.
+// What is kept beside a list: its count, and four limits for each of its seven places. Rows past the count are zero. Arrays with a count: C has
+// them so.
 #[repr(C)]
 #[derive(Clone, Copy)]
 pub struct Summary {
