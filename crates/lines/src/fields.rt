@@ -103,7 +103,7 @@ impl<'a> Fields<'a> {
     pub fn list(&mut self) -> Result<Words, Unreadable>
         ensures { IfOk result (λ list. OnNext self.old.rest (λ next. IsNumeral 10 next × (list.count ≡ digits_value 10 next))) }
     {
-        let count = self.number()?;
+        let count: u8 = self.number()?;
         let words = self.seven_words()?;
         Ok(Words { words, count })
     }
