@@ -108,6 +108,16 @@ impl<'a> Fields<'a> {
         Ok(Words { words, count })
     }
 
+    // A list with which the line ends.
+    pub fn last_list(&mut self) -> Result<Words, Unreadable>
+        ensures count { IfOk result (λ list. OnNext self.old.rest (λ next. IsNumeral 10 next × (list.count ≡ digits_value 10 next))) }
+        ensures end { IsOk result → IsNone self.new.rest }
+    {
+        let last = self.list()?;
+        self.end()?;
+        Ok(last)
+    }
+
     pub fn is_at_end(&self) -> bool
         ensures { IsTrue result ↔ IsNone self.now.rest }
     {
