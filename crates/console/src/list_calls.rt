@@ -61,8 +61,7 @@ pub(crate) fn build_line(mut fields: Fields<'_>) -> Result<ListingText, Unreadab
 
 pub(crate) fn check_line(mut fields: Fields<'_>) -> Result<VerdictText, Unreadable> {
     let profile = take_profile(&mut fields)?;
-    let list = fields.list()?;
-    fields.end()?;
+    let list = fields.last_list()?;
     Ok(VerdictText(rules::check(profile, list)))
 }
 

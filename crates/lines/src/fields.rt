@@ -103,9 +103,19 @@ impl<'a> Fields<'a> {
     pub fn list(&mut self) -> Result<Words, Unreadable>
         ensures { IfOk result (λ list. OnNext self.old.rest (λ next. IsNumeral 10 next × (list.count ≡ digits_value 10 next))) }
     {
-        let count = self.number()?;
+        let count: u8 = self.number()?;
         let words = self.seven_words()?;
         Ok(Words { words, count })
+    }
+
+    // A list with which the line ends.
+    pub fn last_list(&mut self) -> Result<Words, Unreadable>
+        ensures count { IfOk result (λ list. OnNext self.old.rest (λ next. IsNumeral 10 next × (list.count ≡ digits_value 10 next))) }
+        ensures end { IsOk result → IsNone self.new.rest }
+    {
+        let last = self.list()?;
+        self.end()?;
+        Ok(last)
     }
 
     pub fn is_at_end(&self) -> bool

@@ -3,14 +3,12 @@ use crate::typed_objects::{ReadingText, take_objects};
 use lines::{Fields, ListingText, Unreadable, VerdictText};
 
 pub fn shape_line(mut fields: Fields<'_>) -> Result<VerdictText, Unreadable> {
-    let list = fields.list()?;
-    fields.end()?;
+    let list = fields.last_list()?;
     Ok(VerdictText(lists::shape(list)))
 }
 
 pub fn read_line(mut fields: Fields<'_>) -> Result<ReadingText, Unreadable> {
-    let list = fields.list()?;
-    fields.end()?;
+    let list = fields.last_list()?;
     Ok(ReadingText(lists::read(list)))
 }
 

@@ -4,14 +4,12 @@ use lines::{Fields, ListingText, Unreadable, VerdictText};
 use steps::HalfWatts;
 
 pub fn sink_shape_line(mut fields: Fields<'_>) -> Result<VerdictText, Unreadable> {
-    let list = fields.list()?;
-    fields.end()?;
+    let list = fields.last_list()?;
     Ok(VerdictText(sinks::sink_shape(list)))
 }
 
 pub fn sink_read_line(mut fields: Fields<'_>) -> Result<SinkReadingText, Unreadable> {
-    let list = fields.list()?;
-    fields.end()?;
+    let list = fields.last_list()?;
     Ok(SinkReadingText(sinks::sink_read(list)))
 }
 
@@ -24,7 +22,6 @@ pub fn sink_write_line(mut fields: Fields<'_>) -> Result<ListingText, Unreadable
 // `RATING` and a list.
 pub fn sink_check_line(mut fields: Fields<'_>) -> Result<VerdictText, Unreadable> {
     let rating = HalfWatts(fields.number()?);
-    let list = fields.list()?;
-    fields.end()?;
+    let list = fields.last_list()?;
     Ok(VerdictText(sinks::sink_check(rating, list)))
 }

@@ -6,8 +6,7 @@ use summaries::TakenRequest;
 use verdicts::Verdict;
 
 pub fn summary_line(mut fields: Fields<'_>) -> Result<SummarizedText, Unreadable> {
-    let list = fields.list()?;
-    fields.end()?;
+    let list = fields.last_list()?;
     Ok(SummarizedText(summaries::summarize(list)))
 }
 
