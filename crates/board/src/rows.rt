@@ -45,6 +45,7 @@ pub(crate) fn empty_rows(rows: &mut [Row], n: usize)
     requires { n ≤ length rows.old }
     ensures { rows.new ≡ emptied_to n rows.old }
 {
+    // By index: with `iter_mut().take(n)` the state of the loop has no rows to say this of (tried).
     for i in 0..n {
         rows[i] = emptied(rows[i]);
     }

@@ -74,8 +74,8 @@ fn put_places(out: &mut [u8], at: usize, words: [u32; 7], count: u8) -> usize
     ensures { Appended out.old at (places_text words count 7) out.new result }
 {
     let mut next = at;
-    for i in 0..places_that_count(count) {
-        next = put_place(out, next, words[i]);
+    for word in &words[..places_that_count(count)] {
+        next = put_place(out, next, *word);
     }
     next
 }

@@ -14,8 +14,8 @@ fn limit_words(list: Words, count: u8) -> [[u16; 4]; 7]
     ensures { result ≡ rows_to list.words count }
 {
     let mut rows = [[0; 4]; 7];
-    for i in 0..count as usize {
-        if let Some(object) = objects::decode(list.words[i]) {
+    for (i, w) in list.words[..count as usize].iter().enumerate() {
+        if let Some(object) = objects::decode(*w) {
             rows[i] = limits(object);
         }
     }

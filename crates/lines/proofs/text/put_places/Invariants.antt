@@ -3,5 +3,5 @@
 use Rattle.lines.specs.Text.{Appended, places_text}
 use Rattle.lines.proofs.text.put_places.Given as goal
 
-abbrev pub invariant-loop-i : goal.invariant-loop-i
-invariant-loop-i l = Appended l.initial.out l.at (places_text l.words l.count l.i) l.out l.next
+abbrev pub invariant-loop-word : goal.invariant-loop-word
+invariant-loop-word l = Appended l.initial.out l.at (places_text l.fn.words l.fn.count l.word-index) l.out l.next

@@ -6,6 +6,7 @@ use Prim.Native.Nat.{ℕ, ◌<◌}
 use native.Mathlib.Omega.{arith}
 use lib.ListN.{set}
 use Rattle.objects.proofs.Saying.{decoded_is}
+use Rattle.lists.proofs.Counted.{counted_below, decoded_in}
 use Rattle.lists.proofs.Sevens.{none_filled, one_filled, one_blank}
 use Rattle.summaries.specs.Summaries.{no_limits, limits_in, limits_at}
 use Rattle.summaries.proofs.NarrowFigures.{decoded_narrow}
@@ -22,8 +23,9 @@ pub loop-i-preserved : goal.loop-i-preserved
 loop-i-preserved c =
     let at = c.loop-i in
     let f = limits_at c.args.list.words in
-    let below : at.i < 7 = omega arith in
-    let is = sym (decoded_is _ _ c.decode.ensures) in
+    let h = c.loop-i-test.true in
+    let below : at.i < 7 = omega (arith, counted_below _ _ _ h) in
+    let is = sym (decoded_in _ _ _ _ h c.decode.ensures) in
     elim c.match-decode.branch [
       | in-Some w ↦
           w.rows-is

@@ -5,4 +5,4 @@ use mathlib.Core.Path.{◌≡◌}
 use Rattle.summaries.proofs.making.limit_words.Given as goal
 
 abbrev pub invariant-loop-i : goal.invariant-loop-i
-invariant-loop-i l = l.rows ≡ rows_to l.list.words l.i
+invariant-loop-i l = l.rows ≡ rows_to l.fn.list.words l.i
