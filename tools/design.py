@@ -115,6 +115,8 @@ def counts(commit):
     return found
 
 def main():
+    if "-h" in sys.argv or "--help" in sys.argv:
+        return print(__doc__.strip())
     args = [a for a in sys.argv[1:] if not a.startswith("-")]
     found = counts(args[0] if args else None)
     for k, places in found.items():

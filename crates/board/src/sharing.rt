@@ -1,4 +1,4 @@
-// The sharing calls over the lent rows (docs/STATEMENT.md, "Ports that share"). What a call does is decided by value, in `ports`.
+// The sharing calls over the lent rows (docs/STATEMENT.md, "Ports that share"). Rows, capacity and port are C's parameters. What a call does is decided by value, in `ports`.
 ghost use Rattle.std.specs.Prelude.{◌≡◌, false, set};
 ghost use Rattle.ports.specs.Rows.{row_of};
 ghost use Rattle.ports.specs.Standing.{standing_of, place_of};

@@ -64,7 +64,8 @@ impl<W: Write> Output<W> {
     }
 
     // The words by themselves, as `put_line` takes them: a whole list, copied for the call, takes a fifth
-    // more time.
+    // more time. Room is asked for here and in the two below, and not made: `make_room` alone writes, so that these
+    // say byte by byte what waits.
     fn put(&mut self, number: u8, words: [u32; 7], count: u8)
         requires { length self.old.waiting + 71 ≤ 65536 }
         ensures { self.new ≡ record self.old { waiting = self.old.waiting ++ line_of number words count } }

@@ -10,6 +10,8 @@ use std::io::Read;
 pub(crate) enum Stop {
     Unread,
     Unwritten,
+    // Not read, and then not written.
+    Neither,
     OutOfMemory,
 }
 
@@ -24,6 +26,9 @@ impl fmt::Display for Stop {
         f.write_str(match self {
             Stop::Unread => "standard input cannot be read",
             Stop::Unwritten => "standard output cannot be written",
+            Stop::Neither => {
+                "standard input cannot be read\nconsole: standard output cannot be written"
+            }
             Stop::OutOfMemory => "out of memory",
         })
     }
@@ -107,14 +112,24 @@ fn serve_blocks(rt: &impl Print, input: &mut impl Read, console: &mut Console) -
     Ok(())
 }
 
+// The last line, and what waits.
+fn finish(rt: &impl Print, console: &mut Console) -> Result<(), Stop> {
+    console.end_input()?;
+    console.write_answers(rt)
+}
+
 pub(crate) fn serve(rt: &(impl Print + Input + AllocGlobal)) -> Result<(), Stop> {
     let mut input = rt.reader();
     let mut console = Console::new(rt.alloc());
     let served = serve_blocks(rt, &mut input, &mut console);
     // What was read before it could be read no further is answered.
-    if matches!(served, Ok(()) | Err(Stop::Unread)) {
-        console.end_input()?;
-        console.write_answers(rt)?;
+    match served {
+        Ok(()) => finish(rt, &mut console),
+        Err(Stop::Unread) => match finish(rt, &mut console) {
+            Ok(()) => Err(Stop::Unread),
+            Err(Stop::Unwritten) => Err(Stop::Neither),
+            Err(stop) => Err(stop),
+        },
+        Err(stop) => Err(stop),
     }
-    served
 }

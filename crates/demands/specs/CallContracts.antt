@@ -86,8 +86,6 @@ use Rattle.ports.proofs.request.Reads as request
 use Rattle.ports.proofs.detach.Reads as detach
 use Rattle.ports.proofs.remaining.Reads as remaining
 
--- ---- steps
-
 -- ---- verdicts
 
 abbrev pub VerdictPlacelessAnswers : ℕ → Verdict → Type 0
@@ -98,6 +96,8 @@ VerdictAtAnswers number place r = verdict_at.Post tt (number, (place, tt)) r (nu
 
 abbrev pub VerdictPassedAnswers : Verdict → Result (Unit {0}) Verdict → Type 0
 VerdictPassedAnswers v r = verdict_passed.Post tt (v, tt) r (v, tt)
+
+-- ---- steps
 
 abbrev pub RoundDownAnswers : ℕ → ℕ → ℕ → Type 0
 RoundDownAnswers numerator divisor r = round_down.Post tt (numerator, (divisor, tt)) r (numerator, (divisor, tt))

@@ -21,6 +21,7 @@ fn flat_word(w: u32) -> FlatObject
 }
 
 // The objects of so many words, each in its place; empty places past them. The decoded list is not made: a flat one is all that is wanted.
+// C gets the struct, which can have no parameter, so this is no instance of what `lists` has.
 fn flatten_words(list: Words, count: u8) -> FlatObjects
     requires { count ≤ 7 }
     ensures { result ≡ flat_objects (objects_to list.words count) }

@@ -24,7 +24,8 @@ fn encode_flat(side: Side, flat: FlatObject) -> Option<u32>
     }
 }
 
-// The word of each object, until one has a field too wide.
+// The word of each object, until one has a field too wide. As in `lists`: a common one would take a closure, of which only what it says is known
+// here (`encoded_says`).
 fn encode_places(side: Side, list: FlatObjects) -> Result<Words, Verdict>
     ensures { result ≡ flat_made_for side list }
 {

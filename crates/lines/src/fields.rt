@@ -91,7 +91,9 @@ impl<'a> Fields<'a> {
     }
 
     // The words of a list or a message are typed all seven, also where fewer count.
-    pub fn seven_words(&mut self) -> Result<[u32; 7], Unreadable> {
+    pub fn seven_words(&mut self) -> Result<[u32; 7], Unreadable>
+        ensures there { IsOk result → IsSome self.old.rest }
+    {
         let mut words = [0; 7];
         for word in &mut words {
             *word = self.word()?;

@@ -74,7 +74,8 @@ pub struct Listing {
     pub list: Words,
 }
 
-// What a call that gives a list answers, from one that went on by `?`: on a refusal the list is empty.
+// What a call that gives a list answers, from one that went on by `?`: on a refusal the list is empty. Each struct of an answer has one of these: an impl
+// by a macro of ours would be refused.
 impl From<Result<Words, Verdict>> for Listing {
     ghost from_gives = { λ r l. l ≡ listing_told r };
 

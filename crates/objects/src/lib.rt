@@ -78,7 +78,7 @@ pub enum Object {
     },
     // A programmable supply: the sink asks for a voltage of a range.
     Pps {
-        // Power limited, bit 27.
+        // Power limited, bit 27. A number: 2 is refused as too wide (`PpsWord7`), not cut.
         limited: u8,
         // The maximum voltage, bits 24..17.
         max: Mv100,

@@ -60,7 +60,7 @@ pub(crate) fn named_object(row: Row, word: u32) -> Result<Object, Verdict>
     Err(Verdict::placeless(verdicts::POSITION))
 }
 
-// The four calls differ in what the seat decides; each has its name and its promise, since theorems of `demands` speak of each by name.
+// The four calls differ in what the seat decides; each has its name, its parameters and its promise (`Attaches` and its kin), since theorems of `demands` speak of each.
 
 // A cable came to an empty port: its row with this cable and a present power anew, which is the smaller of its maximum and what the
 // other rows leave. `offer` makes the list. Refusals: that of the standing (30, 32 or 37), 37 for the sum, 33, 3, 34 (the port).

@@ -1,5 +1,5 @@
 // How the rows stand: one pass judges and sums them. Here is what it does before the first row, with each row, and at the end. The
-// loops over the rows are the callers': `board`'s over the lent rows, and the console's over its own.
+// loop over the rows is `board`'s.
 ghost use Rattle.std.specs.Prelude.{◌≡◌, ◌-◌, Ok};
 ghost use Rattle.verdicts.specs.Refusals.{first_of, err, passed_by};
 ghost use Rattle.rules.specs.Profiles.{half_watts};
@@ -93,7 +93,7 @@ pub(crate) fn spare(standing: Standing, capacity: HalfWatts) -> Result<HalfWatts
 }
 
 // Where the row of a port, which counts from 1, stands among the rows, from 0. After a refusal, or where there is no such port, it is past
-// the end. Nothing is refused here.
+// the end, and no Option: `TellsPlace` says so. Nothing is refused here.
 #[tactic(auto, unfolding(crate::specs::Standing::place_of))]
 pub fn place_of(standing: Standing, port: u8) -> usize
     ensures { TellsPlace standing port result }

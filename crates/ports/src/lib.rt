@@ -25,7 +25,7 @@ use verdicts::{PASSED, Verdict};
 pub struct Row {
     // The port maximum M, 15 to 200.
     pub max: HalfWatts,
-    // PPS wanted: 0 or 1.
+    // PPS wanted: 0 or 1. A number: C sets it, and any other is refused (4, 37).
     pub pps: u8,
     // What the cable carries, 1 to 5 A: 100 to 500; 0 when the port is empty.
     pub cable: Ma10,

@@ -19,7 +19,7 @@ refusals_of o w =
 unfoldable pub judged_of : Object → ℕ → Verdict
 judged_of o w = verdict_of (refusals_of o w)
 
--- ---- a part of `judged_of`, named for the functions that work them out
+-- ---- a part of `judged_of`, named for the function that works it out
 
 -- "24, 25", where each figure is larger than the advertised one or not; the maximum figure may be, where bit 26 is set
 abbrev pub figure_rows : Bool → Bool → ℕ → List Refusal

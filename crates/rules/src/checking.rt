@@ -114,6 +114,7 @@ impl<'a> Candidate<'a> {
         }
         Some(walk)
     }
+
     // The set of objects (18), then the currents (19).
     fn judged(&self) -> Result<(), Verdict>
         ensures { result ≡ passed_by (check_refusals self.now.port.profile self.now.list.now) }

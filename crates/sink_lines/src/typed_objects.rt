@@ -35,7 +35,7 @@ fn take_object(fields: &mut Fields<'_>) -> Result<SinkObject, Unreadable> {
     }
 }
 
-// As `take_objects` of `object_lines` but for the types, which have no array in common.
+// As `take_objects` of `object_lines` but for the types; what they share is `take_counted`.
 pub(crate) fn take_sink_objects(fields: &mut Fields<'_>) -> Result<SinkObjects, Unreadable> {
     let mut places = [EMPTY_SINK_PLACE; 7];
     let count = take_counted(fields, &mut places, |fields| {

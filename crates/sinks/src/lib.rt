@@ -54,6 +54,7 @@ pub enum SinkObject {
         current: Ma50,
     },
 }
+
 // One place of a list: an object.
 #[derive(Clone, Copy)]
 pub struct SinkPlace {
@@ -62,7 +63,8 @@ pub struct SinkPlace {
 }
 
 // Seven places and how many of them count. What lies past the count is returned as zero and not read on the way in. No Vec: there is no heap.
-// No struct that it shares with `lists::Objects`: an array of a type parameter is none of Rattle's forms.
+// No struct that it shares with `lists::Objects`: over an array of a type parameter each call would owe a bound of its size, and what reads and
+// writes the list would still be told what to make of a word.
 #[derive(Clone, Copy)]
 pub struct SinkObjects {
     // The objects, in order.

@@ -27,7 +27,7 @@ fn place_of(w: u32) -> SinkPlace
 }
 
 // The sink objects of so many words, each in its place; empty places past them. As `lists` and `flat` have it for their structs: one function for
-// all three would be over an array of a type parameter.
+// all three would take an array of a type parameter and a closure, and be longer than these lines.
 fn decode_words(list: Words, count: u8) -> SinkObjects
     requires { count ≤ 7 }
     ensures { result ≡ sink_objects_to list.words count }
@@ -50,7 +50,7 @@ pub fn sink_read(list: Words) -> SinkReading
     }
 }
 
-// The word of each sink object, until one has a field too wide.
+// The word of each sink object, until one has a field too wide. As in `lists`: a common one would take a closure, and be longer than these lines.
 fn encode_places(list: SinkObjects) -> Result<Words, Verdict>
     ensures { result ≡ sink_made_of list }
 {

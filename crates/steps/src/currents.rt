@@ -1,4 +1,4 @@
-// Currents from each step to the other. The numbers are the steps in mA.
+// Currents from each step to the other. The numbers are the steps in mA. As in voltages, each keeps its name.
 ghost use Rattle.steps.specs.Promises.{ConvertedToMa10, ConvertedToMa50};
 
 use crate::scaling::rescale;

@@ -1,4 +1,5 @@
-// Voltages from each step to each other. The numbers are the steps in mV.
+// Voltages from each step to each other. The numbers are the steps in mV. Each conversion keeps its name, which the theorem `Conversions` of demands
+// has.
 ghost use Rattle.steps.specs.Promises.{ConvertedToMv20, ConvertedToMv25, ConvertedToMv50, ConvertedToMv100};
 
 use crate::scaling::rescale;
