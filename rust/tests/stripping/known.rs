@@ -220,7 +220,7 @@ fn derives_of_a_type() {
     };
     let copied = "#[derive(Clone, Copy)]";
     let words = "pub struct Words {\n    pub count: u8,\n}";
-    let figure = "pub struct Mv20(pub u16);";
+    let figure = "pub struct Row(pub u16);";
     assert_eq!(
         derived("lists", copied, words),
         "#[derive(Clone, Copy, PartialEq, Eq, Hash, Default, PartialOrd, Ord)]"
@@ -230,7 +230,7 @@ fn derives_of_a_type() {
         "#[derive(Clone, Copy, PartialEq, Eq, Hash, Debug)]"
     );
     let every = "#[derive(Clone, Copy, PartialEq, Eq, Hash, Debug, Default, PartialOrd, Ord)]";
-    assert_eq!(derived("steps", copied, figure), every);
+    assert_eq!(derived("ports", copied, figure), every);
     // Each once, whether it stands in the source or not, in any order, on one line or several.
     for derive in [
         "#[derive(Clone, Copy, PartialEq, Eq, PartialOrd, Ord)]",
@@ -239,7 +239,7 @@ fn derives_of_a_type() {
         "#[derive(\n    Clone,\n    Copy,\n    PartialEq,\n    Eq,\n)]",
         "#[derive(\n    Clone, Copy, Ord\n)]",
     ] {
-        assert_eq!(derived("steps", derive, figure), every, "{derive}");
+        assert_eq!(derived("ports", derive, figure), every, "{derive}");
     }
     assert_eq!(
         derived("home", "#[derive(PartialOrd)]", figure),
