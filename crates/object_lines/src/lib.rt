@@ -6,4 +6,4 @@ mod calls;
 mod typed_objects;
 
 pub use calls::{read_line, shape_line, write_line};
-pub use typed_objects::{ReadingText, take_counted, write_counted};
+pub use typed_objects::{ReadingText, take_counted};

@@ -1,7 +1,6 @@
 // Objects as they are typed and told: a letter for the kind, then its figures in the object's own steps.
 ghost use Rattle.std.specs.Prelude.{◌≡◌, IfOk, Some};
 ghost use Rattle.std.specs.Str.Parse.{IsNumeral, digits_value};
-ghost use Rattle.std.specs.Iterator.{IsFinite};
 ghost use Rattle.lines.specs.Fields.{OnNext};
 ghost use Rattle.object_lines.specs.Telling.{object_text};
 
@@ -10,7 +9,6 @@ use lists::{EMPTY_PLACE, Objects, Place, Reading};
 use objects::Object;
 use std::fmt;
 use steps::{Ma10, Ma50, Mv50, Mv100, Mw250};
-use verdicts::Verdict;
 
 fn take_object(fields: &mut Fields<'_>) -> Result<Object, Unreadable> {
     match fields.text()? {
@@ -102,31 +100,18 @@ impl fmt::Display for ObjectText {
     }
 }
 
-// The verdict, the count, and as many objects.
-pub fn write_counted<W: fmt::Write, O: fmt::Display + Drop, I: Iterator<Item = O>>(
-    f: &mut fmt::Formatter<W>,
-    verdict: Verdict,
-    count: u8,
-    objects: I,
-) -> fmt::Result
-    requires can { I.can_next objects }
-    requires finite { IsFinite (I.remaining objects) }
-{
-    write!(f, "{} {count}", VerdictText(verdict))?;
-    for object in objects.take(usize::from(count)) {
-        write!(f, " {object}")?;
-    }
-    Ok(())
-}
-
-// A list of objects that was read.
+// A list of objects that was read: the verdict, the count, and as many objects.
 #[derive(Clone, Copy)]
 pub struct ReadingText(pub Reading);
 
 impl fmt::Display for ReadingText {
+    // As the text of a sink list, which has a struct of its own for its objects: a common function would promise nothing of what it writes.
     fn fmt<W: fmt::Write>(&self, f: &mut fmt::Formatter<W>) -> fmt::Result {
         let Reading { verdict, list } = self.0;
-        let objects = list.places.iter().map(|place| ObjectText(place.object));
-        write_counted(f, verdict, list.count, objects)
+        write!(f, "{} {}", VerdictText(verdict), list.count)?;
+        for place in list.places.iter().take(usize::from(list.count)) {
+            write!(f, " {}", ObjectText(place.object))?;
+        }
+        Ok(())
     }
 }

@@ -2,8 +2,8 @@
 ghost use Rattle.std.specs.Prelude.{Some};
 ghost use Rattle.sink_lines.specs.Telling.{sink_object_text};
 
-use lines::{Fields, Unreadable};
-use object_lines::{take_counted, write_counted};
+use lines::{Fields, Unreadable, VerdictText};
+use object_lines::take_counted;
 use sinks::{EMPTY_SINK_PLACE, SinkObject, SinkObjects, SinkPlace, SinkReading};
 use std::fmt;
 use steps::{Ma10, Ma50, Mv50, Mv100, Mw250};
@@ -73,14 +73,17 @@ impl fmt::Display for SinkObjectText {
     }
 }
 
-// A sink list that was read.
+// A sink list that was read: the verdict, the count, and as many objects.
 #[derive(Clone, Copy)]
 pub struct SinkReadingText(pub SinkReading);
 
 impl fmt::Display for SinkReadingText {
     fn fmt<W: fmt::Write>(&self, f: &mut fmt::Formatter<W>) -> fmt::Result {
         let SinkReading { verdict, list } = self.0;
-        let objects = list.places.iter().map(|place| SinkObjectText(place.object));
-        write_counted(f, verdict, list.count, objects)
+        write!(f, "{} {}", VerdictText(verdict), list.count)?;
+        for place in list.places.iter().take(usize::from(list.count)) {
+            write!(f, " {}", SinkObjectText(place.object))?;
+        }
+        Ok(())
     }
 }
