@@ -27,7 +27,7 @@ from pathlib import Path
 TABLE = "docs/TRACE.md"
 HEADING = "## Every public function"
 WITHDRAWN = "crates/demands/specs/Withdrawn.antt"
-HANDED = {"`lists::refuse`"}
+HANDED = {"`verdicts::Verdict::placeless`", "`verdicts::Verdict::at`", "`verdicts::Verdict::passed`", "`lists::refuse`"}
 # DECISIONS, "Which functions have no contract that settles their answer?": what the programs print and take their lines apart with.
 EXEMPT = {"lines", "object_lines", "message_lines", "sink_lines", "summary_lines"}
 # A conversion has the whole of its answer in this member.
