@@ -46,9 +46,9 @@
 
 /* The version of the header, and of the library that it came with. */
 #define ARIN_VERSION_MAJOR 0
-#define ARIN_VERSION_MINOR 7
+#define ARIN_VERSION_MINOR 8
 #define ARIN_VERSION_PATCH 0
-#define ARIN_VERSION "0.7.0"
+#define ARIN_VERSION "0.8.0"
 
 /*
  * Stands before every call: an answer that nobody looks at is a slip, and GCC and clang warn of it. Other compilers see nothing.

@@ -3,10 +3,12 @@
 usage: python3 tools/public_calls.py [ROOT]
 
 A function is public when another crate can reach it: it stands in lib.rt, lib.rt has a `pub use module::name;` or
-`pub use module::{name, ..};` for it, or it is a method of a type or a trait that is public in this way. A conversion to such a type, by From or
-TryFrom, needs no row: its ghost member has to be an equation, `λ a r. r ≡ ..`, which settles its answer by itself, or the promise of a public
-function of the crate, which has its row. Programs, which have a main.rt, and the crates in EXEMPT are not asked. No crate can reach into a static library, NAME_c: its exports have to be the public functions of the library
-NAME, each with the arguments, the answer and the clauses that it has there.
+`pub use module::{name, ..};` for it, or it is a method of a type or a trait that is public in this way. A conversion, by From or TryFrom, needs no
+row, whatever type it is to: its ghost member has to be an equation, `λ a r. r ≡ ..`, with names, numbers and parentheses alone on its right side,
+which settles its answer by itself, or the promise of a public function of the crate, which has its row. Of a struct with one field and no name for
+it the equation may be that of the field, `r.0 ≡ ..`. Another trait is refused unless it is one of ours, whose functions are asked at the trait.
+Programs, which have a main.rt, and the crates in EXEMPT are not asked. No crate can reach into a static library, NAME_c: its exports have to be the
+public functions of the library NAME, each with the arguments, the answer and the clauses that it has there.
 Each public function has one row under "## Every public function":
 
     | `crate::name` or `crate::Type::name` | what it refuses, or "nothing" | outcome | refusals | unread places |
@@ -25,13 +27,13 @@ from pathlib import Path
 TABLE = "docs/TRACE.md"
 HEADING = "## Every public function"
 WITHDRAWN = "crates/demands/specs/Withdrawn.antt"
-HANDED = {"`lists::refuse`"}
+HANDED = {"`verdicts::Verdict::placeless`", "`verdicts::Verdict::at`", "`verdicts::Verdict::passed`", "`lists::refuse`"}
 # DECISIONS, "Which functions have no contract that settles their answer?": what the programs print and take their lines apart with.
 EXEMPT = {"lines", "object_lines", "message_lines", "sink_lines", "summary_lines"}
 # A conversion has the whole of its answer in this member.
 CONVERSIONS = {"From": "from_gives", "TryFrom": "try_from_gives"}
-# Traits of the library of Rattle with no function that is a call of ours. A function of a trait of ours is asked at the trait.
-WITHOUT_CALLS = {"Model", "Debug", "Display", "Error"}
+# A type of one crate alone that has an invariant: what its conversion promises beside that, known by its words.
+BY_INVARIANT = {"rules::Port": "λ p r. MatchResult r (λ port. port.profile ≡ p) (λ v. passed_by (profile_refusals p) ≡ Err v)"}
 COLUMNS = ("outcome", "refusals", "unread places")
 NAMES = re.compile(r"`[^`]+`(, `[^`]+`)*")
 REASON = re.compile(r"- \S.*")
@@ -131,9 +133,9 @@ def blocks_in(path, place, traits, faults):
         block = block_of(line)
         if block:
             trait, owner = block
-            if trait not in {None, *traits, *CONVERSIONS, *WITHOUT_CALLS}:
+            if trait not in {None, *traits, *CONVERSIONS}:
                 faults.append(f"{place}:{at}: a trait that is not known here: {line}")
-        elif re.match(r"impl\b", line):
+        elif re.match(r"\s*(unsafe )?impl\b", line):
             faults.append(f"{place}:{at}: this form is not read here: {line}")
         yield at, line, trait, owner
         if line == "}" or block and line.endswith("}"):
@@ -149,17 +151,33 @@ def functions_in(path, place, traits, faults):
             yield owner, function[2], at, clauses_from(lines[at - 1 :])
 
 
-def conversions_in(path, place, types, traits, promises, faults):
-    """How many conversions to public types a file has: the answer of each is an equation, or one of these promises of public functions."""
-    lines, found = lines_of(path), 0
+def member_of(block, name):
+    """The words of a ghost member of a block, or None where it has none, or more than one."""
+    code = " ".join(" ".join(line.split("//")[0] for line in block).split())
+    found = re.findall(rf"(?<!\S)ghost {name} = {{ ([^;]*) }};", code)
+    return found[0] if len(found) == 1 else None
+
+
+def with_one_field(source):
+    """The structs of a crate that have one field, and no name for it."""
+    form = r"(?:pub(?:\(crate\))? )?struct (\w+)\((?:pub(?:\(crate\))? )?[\w:]+\);"
+    found = (re.match(form, line) for path in source.glob("*.rt") for line in lines_of(path))
+    return {match[1] for match in found if match}
+
+
+def conversions_in(path, crate, traits, promises, faults):
+    """How many conversions a file has: the answer of each is an equation, or one of these promises of public functions."""
+    lines, found, place = lines_of(path), 0, f"crates/{crate}/src/{path.name}"
+    one_field = with_one_field(path.parent)
     for at, line, trait, owner in blocks_in(path, place, traits, []):
-        if trait in CONVERSIONS and owner in types and block_of(line):
+        if trait in CONVERSIONS and block_of(line):
             found += 1
             rest = lines[at:]
-            block = " ".join(rest[: rest.index("}")])
-            promise = re.search(rf" ghost {CONVERSIONS[trait]} = {{ (\w+) }};", block)
-            equation = re.search(rf" ghost {CONVERSIONS[trait]} = {{ λ (\w+) (\w+)\. \2 ≡ (?:(?!\b\2\b)[^;])* }};", block)
-            if not equation and not (promise and promise[1] in promises):
+            member = member_of(rest[: rest.index("}")], CONVERSIONS[trait]) or ""
+            # No sum, product, arrow or second equation has its sign here; and the answer is not said of itself.
+            equation = re.fullmatch(r"λ (\w+) (\w+)\. \2(\.0)? ≡ (?:(?!\b\2\b)[\w.() ])+", member)
+            whole = equation and (not equation[3] or trait == "From" and owner in one_field)
+            if not whole and member not in promises and BY_INVARIANT.get(f"{crate}::{owner}") != member:
                 faults.append(f"{place}:{at}: a conversion that no equation `ghost {CONVERSIONS[trait]} = {{ λ a r. r ≡ .. }};` settles: {line}")
     return found
 
@@ -176,7 +194,7 @@ def public_functions(root, crate, traits, faults):
                 found.append((f"{crate}::{owner + '::' if owner else ''}{name}", f"{place}/{path.name}:{line}", clauses))
                 promises.update(re.findall(r"\bensures \{ (\w+) ", " ".join(head_of(lines_of(path)[line - 1 :]))))
     for path in sorted(source.glob("*.rt")):
-        conversions += conversions_in(path, f"{place}/{path.name}", types, traits, promises, faults)
+        conversions += conversions_in(path, crate, traits, promises, faults)
     return found, conversions
 
 
@@ -344,7 +362,7 @@ def main(words):
         return 1
     print(
         f"public: {len(functions)} functions, each with its theorems ({len(named)} theorems), {exported} exports with the clauses of theirs, "
-        f"and {conversions} conversions, each by an equation"
+        f"and {conversions} conversions, each with a promise that settles it"
     )
     return 0
 

@@ -13,9 +13,11 @@
 //!
 //! A call answers a [`verdicts::Verdict`], a number and a place, or a struct with a verdict beside the value. `ok` makes a `Result` of
 //! either, whose error is a [`Refusal`]: it says its sentence, and it is never a success. A call that gives a `Result` itself has the verdict as
-//! its error, which `?` turns into a `Refusal`. What is refused for one reason alone is an `Option`: `ok_or` says the refusal there.
+//! its error, which `?` turns into a `Refusal`. What is refused for one reason alone is an `Option`, and [`answers`] makes the same `Result` of it:
+//! `ok` of an object, `or_too_wide` or `or_no_place` of a word.
 //!
 //! ```
+//! use arinduleu::answers::*;
 //! use arinduleu::board::{arin_attach, arin_remaining, arin_request, arin_set_up};
 //! use arinduleu::messages::{read_message, write_message, Header, Message, LONGEST_MESSAGE, REQUEST};
 //! use arinduleu::objects::{decode, Object};
@@ -23,8 +25,7 @@
 //! use arinduleu::rules::{build, default_profile, Profile};
 //! use arinduleu::sinks::{sink_check, sink_write, SinkObject, SinkObjects};
 //! use arinduleu::steps::{HalfWatts, Ma10, Mv50};
-//! use arinduleu::verdicts::{Verdict, KIND_NOT_ALLOWED};
-//! use arinduleu::{requests, Refusal};
+//! use arinduleu::{requests, verdicts, Refusal};
 //!
 //! fn main() -> Result<(), Refusal> {
 //!     // A port of 36 W with programmable supplies.
@@ -33,9 +34,10 @@
 //!     assert_eq!(list.as_slice()[0], 0x0001_912C);
 //!
 //!     // Its third object: 15 V at 2.4 A. A word of no kind that such a list holds is none, and refusal 12 for whoever wants one.
-//!     let object = decode(list.as_slice()[2]).ok_or(Verdict::placeless(KIND_NOT_ALLOWED))?;
+//!     let object = decode(list.as_slice()[2]).ok()?;
 //!     assert!(matches!(object, Object::Fixed { volts: Mv50(300), current: Ma10(240), .. }));
 //!     assert_eq!(decode(0xF000_0000), None);
+//!     assert_eq!(decode(0xF000_0000).ok().unwrap_err().number(), verdicts::KIND_NOT_ALLOWED);
 //!
 //!     // 3 A of the object at position 1, and then of one that the list does not have.
 //!     requests::answer(list, 0x1004_B12C).ok()?;
@@ -89,7 +91,7 @@
 //! ```
 //! use arinduleu::rules::{build, default_profile, Profile};
 //! use arinduleu::steps::{HalfWatts, Ma10};
-//! use arinduleu::summaries::{answer_summary, summarize, take_request, TakenRequest, ABOVE_15_V, BELOW_15_V, HIGHEST};
+//! use arinduleu::summaries::{answer_summary, summarize, take_request, ABOVE_15_V, BELOW_15_V, HIGHEST};
 //! use arinduleu::{requests, verdicts, Refusal};
 //!
 //! fn main() -> Result<(), Refusal> {
@@ -103,9 +105,9 @@
 //!     assert_eq!(avs, [9000, 20000, 3000, 3250]);
 //!     assert_eq!((avs[HIGHEST], avs[BELOW_15_V], avs[ABOVE_15_V]), (20000, 3000, 3250));
 //!
-//!     let answer = |word| match take_request(list, word)? {
-//!         TakenRequest::Quick(asked) => answer_summary(summary, asked).ok(),
-//!         TakenRequest::Battery { .. } => requests::answer(list, word).ok(),
+//!     let answer = |word| match take_request(list, word)?.ok()? {
+//!         Some(asked) => answer_summary(summary, asked).ok(),
+//!         None => requests::answer(list, word).ok(),
 //!     };
 //!     // Of AVS 15.0 V at 3.25 A, where the larger of the two currents limits; then 3.30 A.
 //!     answer(0x5004_B041)?;
@@ -117,11 +119,11 @@
 //!
 //! # Traits
 //!
-//! Every type can be copied, compared, hashed and shown; the words of a list and of a message are shown in hex. `Default` is all zero: success,
-//! an empty list or place, the summary of no list, no request, no message, a row before set-up, a measure of nothing. [`rules::Profile`] has
-//! none, since one that is all zero is refused: see [`rules::default_profile`]. Measures are ordered by what they measure, verdicts and
-//! refusals by number and then by place. The order of profiles, rows, objects of either side, lists of words and messages goes by their fields
-//! as they are declared: it is for sorted collections, and says nothing of which is better.
+//! Every type can be copied, compared, hashed and shown; words are shown in hex, a single one as a [`Word`]. `Default` is all zero: success, an
+//! empty list or place, the summary of no list, no request, no message, a row before set-up, a measure of nothing. [`rules::Profile`] has none,
+//! since one that is all zero is refused: see [`rules::default_profile`]. Measures are ordered by what they measure, verdicts and refusals by
+//! number and then by place. The order of profiles, rows, objects of either side, lists of words and messages goes by their fields as they are
+//! declared: it is for sorted collections, and says nothing of which is better.
 #![no_std]
 #![forbid(unsafe_code)]
 #![deny(missing_docs, rustdoc::broken_intra_doc_links)]
@@ -134,6 +136,7 @@
     clippy::needless_range_loop
 )]
 
+pub mod answers;
 mod defaults;
 mod making;
 mod refusal;
@@ -142,5 +145,6 @@ mod slices;
 mod words;
 
 pub use refusal::Refusal;
+pub use words::Word;
 
 include!(concat!(env!("OUT_DIR"), "/library.rs"));

@@ -1,5 +1,6 @@
-//! Every answer with a verdict as a `Result`, so that `?` can be used.
+//! Every answer of a type of its own as a `Result`, so that `?` can be used.
 
+use crate::answers::Answer;
 use crate::flat::{FlatObjects, FlatReading, FlatRequest, FlatTaken};
 use crate::lists::{Listing, Objects, Reading, Words};
 use crate::messages::{Message, MessageReading, Written};
@@ -8,7 +9,7 @@ use crate::refusal::Refusal;
 use crate::rules::{Profile, Profiled};
 use crate::sinks::{SinkObjects, SinkReading};
 use crate::steps::HalfWatts;
-use crate::summaries::{Summarized, Summary};
+use crate::summaries::{QuickAsked, Summarized, Summary, TakenRequest};
 use crate::verdicts::Verdict;
 
 impl Verdict {
@@ -60,6 +61,23 @@ value_beside_verdict! {
     RemainingPower { power: HalfWatts } "power that no port holds";
 }
 
+// A request to a battery object is no refusal: the list answers it. What is refused is the `Err` beside this.
+impl TakenRequest {
+    /// The decoded request where a summary can answer it, none where it is to a battery object, which the list has to answer.
+    pub const fn ok(self) -> Result<Option<QuickAsked>, Refusal> {
+        match self {
+            TakenRequest::Quick(asked) => Ok(Some(asked)),
+            TakenRequest::Battery { .. } => Ok(None),
+        }
+    }
+}
+
+impl From<TakenRequest> for Result<Option<QuickAsked>, Refusal> {
+    fn from(taken: TakenRequest) -> Self {
+        taken.ok()
+    }
+}
+
 // The number as what ends a slice of the buffer.
 impl Written {
     /// How many bytes were written where the call succeeded, else its refusal.
@@ -75,4 +93,31 @@ impl From<Written> for Result<usize, Refusal> {
     fn from(written: Written) -> Self {
         written.ok()
     }
+}
+
+macro_rules! answers {
+    ($($answer:ident: $value:ty;)*) => {$(
+        impl Answer for $answer {
+            type Value = $value;
+
+            fn ok(self) -> Result<$value, Refusal> {
+                $answer::ok(self)
+            }
+        }
+    )*};
+}
+
+answers! {
+    Verdict: ();
+    Listing: Words;
+    Reading: Objects;
+    FlatReading: FlatObjects;
+    Summarized: Summary;
+    TakenRequest: Option<QuickAsked>;
+    FlatTaken: FlatRequest;
+    MessageReading: Message;
+    SinkReading: SinkObjects;
+    Profiled: Profile;
+    RemainingPower: HalfWatts;
+    Written: usize;
 }

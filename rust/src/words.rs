@@ -4,6 +4,16 @@ use crate::lists::Words;
 use crate::messages::Message;
 use core::fmt::{Debug, Formatter, Result};
 
+/// One word, shown so: `Word(0x0001912C)`. Calls take and give a plain `u32`; `encode(object).map(Word)` shows what it gives.
+#[derive(Clone, Copy, PartialEq, Eq, Hash, Default, PartialOrd, Ord)]
+pub struct Word(pub u32);
+
+impl Debug for Word {
+    fn fmt(&self, f: &mut Formatter) -> Result {
+        f.debug_tuple("Word").field(&Hex(self.0)).finish()
+    }
+}
+
 struct Hex(u32);
 
 impl Debug for Hex {

@@ -1,15 +1,16 @@
 -- Proves the claim of specs/Withdrawn.antt: no row of a table has the number 21, and a call gives the number of a row.
 -- Assumes nothing.
 use mathlib.Core.Path.{◌≡◌, refl, sym, ap, ◌∙◌}
-use mathlib.Core.Bool.{Bool, true, false}
+use mathlib.Core.Bool.{Bool, true, false, cond}
 use mathlib.Core.List.{List, [], ◌∷◌}
 use Prim.Native.Nat.{ℕ}
 use lib.Dec.{eqb}
 use lib.ListN.{length}
 use native.Mathlib.Omega.{arith}
 use borrow.Author.Tests.{eqb-true, eqb-false}
+use Rattle.std.specs.Prelude.{Result, Ok, Err}
 use Rattle.verdicts.specs.declared.Verdict.{Verdict}
-use Rattle.verdicts.specs.Refusals.{Refusal, refusal}
+use Rattle.verdicts.specs.Refusals.{Refusal, refusal, told}
 use Rattle.verdicts.proofs.First.{numbered, Without, without_append, without_numbered, not_first}
 use Rattle.objects.specs.declared.Side.{Side}
 use Rattle.objects.specs.declared.Side.TheVariants.{Source, Sink}
@@ -50,7 +51,7 @@ use Rattle.flat.proofs.Requests.{flat_numbered}
 use Rattle.flat.specs.declared.FlatObjects.{FlatObjects}
 use Rattle.flat.specs.declared.FlatReading.{FlatReading}
 use Rattle.flat.specs.Writing.{encoded_flat_at, flat_write_refusals}
-use Rattle.demands.specs.CallContracts.{ShapeForAnswers, FinishedAnswers, TakeRowAnswers}
+use Rattle.demands.specs.CallContracts.{VerdictPassedAnswers, ShapeForAnswers, FinishedAnswers, TakeRowAnswers}
 use Rattle.demands.specs.FlatContracts.{FlatReadForAnswers, FlatWriteForAnswers}
 use Rattle.demands.specs.Refusals.{Answers}
 use Rattle.demands.specs.EnumRefusals.{OneRefusal}
@@ -100,6 +101,15 @@ take_row_21 s y place fresh r e other = go (eqb s.fault.number 0) refl where
       let stays = (take_row_refusals s y place fresh r e).1 (eqb-false s.fault.number 0 q) in
       λ z. other (sym (ap (λ (t : Standing). t.fault.number) stays) ∙ z)
 
+-- a success is 0, and a refusal is handed on
+passed_21 : (v : Verdict) (r : Result (Unit {0}) Verdict) → VerdictPassedAnswers v r → Not21 v.number → Not21 (told r).number
+passed_21 v r e other = go (eqb v.number 0) refl where
+  go : (b : Bool) → eqb v.number 0 ≡ b → Not21 (told r).number
+  go true q z =
+      absurd (omega (arith, sym (ap (λ (x : Result (Unit {0}) Verdict). (told x).number) (e ∙ ap (λ (b : Bool). cond b (Ok tt) (Err v)) q)) ∙ z))
+  go false q z =
+      other (sym (ap (λ (x : Result (Unit {0}) Verdict). (told x).number) (e ∙ ap (λ (b : Bool). cond b (Ok tt) (Err v)) q)) ∙ z)
+
 -- ---- the calls of either side
 
 shape_for_21 : (side : Side) (l : Words) (r : Verdict) → ShapeForAnswers side l r → Not21 r.number
@@ -128,6 +138,7 @@ pub never_21 : Never21
 never_21 = record {
   placeless = λ number r e other z. other (sym (ap (λ (v : Verdict). v.number) e) ∙ z);
   at = λ number place r e other z. other (sym (ap (λ (v : Verdict). v.number) e) ∙ z);
+  passed = passed_21;
   decode = λ w r e. not_one (λ z. absurd (omega (arith, z))) (decode_12 w r e);
   decode_for = λ side w r e. not_one (λ z. absurd (omega (arith, z))) (decode_for_12 side w r e);
   encode = λ o r e. not_one (λ z. absurd (omega (arith, z))) (encode_7 o r e);

@@ -4,6 +4,7 @@
 -- Assumes nothing.
 use Rattle.std.specs.Prelude.{◌≡◌, Bool, List, ℕ, Option, Result}
 use Rattle.verdicts.specs.declared.Verdict.{Verdict}
+use Rattle.verdicts.specs.Refusals.{told}
 use Rattle.steps.specs.declared.Mv50.{Mv50}
 use Rattle.steps.specs.declared.Mv100.{Mv100}
 use Rattle.steps.specs.declared.Ma10.{Ma10}
@@ -46,7 +47,7 @@ use Rattle.flat.specs.declared.FlatTaken.{FlatTaken}
 use Rattle.messages.specs.Promises.{TakesMessage, ReadsMessage, WritesMessage}
 use Rattle.board.specs.MessagePromises.{ArinTakesMessage, ArinReadsMessage, ArinWritesMessage}
 use Rattle.board.specs.Promises.{SharesSetUp, SharesAttach, SharesAdvertise, SharesRequest, SharesDetach, SharesRemaining}
-use Rattle.demands.specs.CallContracts.{VerdictPlacelessAnswers, VerdictAtAnswers}
+use Rattle.demands.specs.CallContracts.{VerdictPlacelessAnswers, VerdictAtAnswers, VerdictPassedAnswers}
 use Rattle.demands.specs.CallContracts.{DecodeForAnswers, ShapeForAnswers, ReadableAnswers, FinishedAnswers, DecodeAnswers, EncodeAnswers, FixedWordAnswers, PpsWordAnswers, AvsWordAnswers}
 use Rattle.demands.specs.CallContracts.{ShapeAnswers, ReadAnswers, RefuseAnswers, WriteAnswers}
 use Rattle.demands.specs.CallContracts.{DefaultAnswers, BuildAnswers, CheckAnswers, WordAtAnswers}
@@ -61,9 +62,10 @@ abbrev pub Not21 : ℕ → Type 0
 Not21 n = n ≡ 21 → ⊥
 
 pub record Never21 : Type 0 where
-  -- verdicts, which give the number that they are handed
+  -- verdicts, which give the number that they are handed, or hand it on
   pub placeless : (number : ℕ) (r : Verdict) → VerdictPlacelessAnswers number r → Not21 number → Not21 r.number
   pub at : (number place : ℕ) (r : Verdict) → VerdictAtAnswers number place r → Not21 number → Not21 r.number
+  pub passed : (v : Verdict) (r : Result (Unit {0}) Verdict) → VerdictPassedAnswers v r → Not21 v.number → Not21 (told r).number
   -- objects
   pub decode : (w : ℕ) (r : Option Object) → DecodeAnswers w r → Not21 (decoded_says r).0
   pub decode_for : (side : Side) (w : ℕ) (r : Option Object) → DecodeForAnswers side w r → Not21 (decoded_says r).0

@@ -85,10 +85,7 @@ impl From<Result<Words, Verdict>> for Listing {
                 verdict: PASSED,
                 list,
             },
-            Err(verdict) => Listing {
-                verdict,
-                list: NO_WORDS,
-            },
+            Err(verdict) => refuse(verdict.number, verdict.place),
         }
     }
 }

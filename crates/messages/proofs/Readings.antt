@@ -1,6 +1,6 @@
 -- The cases of taking a message apart and of reading it.
 -- Assumes nothing.
-use Rattle.std.specs.Prelude.{Ok}
+use Rattle.std.specs.Prelude.{Result, Ok, Err}
 use mathlib.Core.Path.{◌≡◌, refl, ap, sym, ◌∙◌}
 use mathlib.Core.Bool.{Bool, true, false, not, ◌||◌, or-true}
 use mathlib.Core.List.{List}
@@ -11,11 +11,18 @@ use borrow.Author.Tests.{lt-ltb, le-ltb, eq-eqb, ne_eqb}
 use Rattle.verdicts.specs.declared.Verdict.{Verdict}
 use Rattle.verdicts.specs.Refusals.{first_of, err, verdict_of, NoneApply}
 use Rattle.verdicts.proofs.First.{hit, miss, numbered, numbered_append, none_applied, all_missed, onward, onto, said_first}
+use Rattle.verdicts.proofs.Results.{value_meant}
+use Rattle.messages.specs.declared.Header.{Header}
+use Rattle.messages.specs.declared.Message.{Message}
 use Rattle.messages.specs.declared.MessageReading.{MessageReading}
 use Rattle.messages.specs.Headers.{length_of}
 use Rattle.messages.specs.Refusing.{header_refusals, list_refusals}
-use Rattle.messages.specs.Reading.{header_in, message_in, taking_refusals, reading_refusals, reading_refused, reading_told, read_as, taken_of, message_read_of}
+use Rattle.messages.specs.Reading.{header_in, words_in, message_in, taking_refusals, reading_refusals, reading_refused, reading_told, read_as, taken_of, message_read_of}
 use Rattle.messages.proofs.Refusals.{list_numbered}
+use Rattle.messages.proofs.Steps.{stops_at, goes_past}
+
+abbrev given : Message → Result Message Verdict
+given m = Ok m
 
 -- ---- 40
 
@@ -89,3 +96,15 @@ module _ (bs : List ℕ) where
   pub read_told : reading_told (first_of err (reading_refusals bs) (Ok (message_in bs))) ≡ message_read_of bs
   unfolding message_read_of
   read_told = onto reading_told err (reading_refusals bs) (Ok (message_in bs))
+
+  -- ---- from the header to the message
+
+  pub whole_by_header : {h : Header} {m : Message} → Ok h ≡ first_of err (taking_refusals bs) (Ok (header_in bs))
+      → m ≡ record { header = h; words = words_in bs h.count } → Ok m ≡ first_of err (taking_refusals bs) (Ok (message_in bs))
+  whole_by_header e f =
+      ap given (f ∙ ap (λ (h : Header). record { header = h; words = words_in bs h.count }) (value_meant (header_in bs) (taking_refusals bs) (sym e)))
+      ∙ sym (goes_past (header_in bs) (taking_refusals bs) e err (given (message_in bs)))
+
+  pub refused_by_header : {v : Verdict} → Err v ≡ first_of err (taking_refusals bs) (Ok (header_in bs))
+      → Err v ≡ first_of err (taking_refusals bs) (Ok (message_in bs))
+  refused_by_header e = sym (stops_at (header_in bs) (taking_refusals bs) e err (given (message_in bs)))

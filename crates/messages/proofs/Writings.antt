@@ -47,6 +47,9 @@ module _ {A : Type 0} (refused : ℕ → ℕ → A) (answer : A) (room : ℕ) (m
         → answered ≡ refused (verdict_of (header_refusals m.header)).number (verdict_of (header_refusals m.header)).place
     header_refused f = past_fields ∙ stops refused (header_refusals m.header) (room_refusals room m) answer f
 
+    pub no_room_at_all : (verdict_of (header_refusals m.header)).number ≡ 0 → room < length_of m.header → answered ≡ refused 52 0
+    no_room_at_all z h = past_fields ∙ goes_on_lem refused (header_refusals m.header) (room_refusals room m) answer refl z ∙ no_room h
+
     module _ (z : (verdict_of (header_refusals m.header)).number ≡ 0) (h : length_of m.header ≤ room) where
       past_all : answered ≡ first_of refused (list_refusals m) answer
       past_all = past_fields ∙ goes_on_lem refused (header_refusals m.header) (room_refusals room m) answer refl z ∙ past_room h

@@ -1,15 +1,15 @@
 // Reading: from bytes to a message.
-ghost use Rattle.std.specs.Prelude.{◌≡◌, ◌≤◌, length, Ok};
+ghost use Rattle.std.specs.Prelude.{◌≡◌, ◌≤◌, length, Ok, IfOk};
 ghost use Rattle.verdicts.specs.Refusals.{first_of, err};
 ghost use Rattle.messages.specs.Headers.{length_of};
-ghost use Rattle.messages.specs.Reading.{words_in, message_in, taking_refusals, reading_refusals};
+ghost use Rattle.messages.specs.Reading.{words_in, header_in, message_in, taking_refusals, reading_refusals};
 ghost use Rattle.messages.specs.Promises.{TakesMessage, ReadsMessage};
 
 use crate::headers::header_of;
 use crate::judging::{judge_header, judge_list};
 use crate::low_first::{half_of, word_of};
 use crate::{Header, Message, MessageReading};
-use verdicts::Verdict;
+use verdicts::{PASSED, Verdict};
 
 // The header and the words behind it. Each word is put down where it will stand: an array of their own would be copied once more, which
 // small boards feel.
@@ -27,9 +27,11 @@ fn message_in(bytes: &[u8], header: Header) -> Message
     message
 }
 
-// A message that is taken apart, or the first of 40, 42, 41, 53.
-fn taken_apart(bytes: &[u8]) -> Result<Message, Verdict>
-    ensures { result ≡ first_of err (taking_refusals bytes.now) (Ok (message_in bytes.now)) }
+// The header of a message that is taken apart, or the first of 40, 42, 41, 53. Without the words: within a result they would be copied
+// once more.
+fn header_taken(bytes: &[u8]) -> Result<Header, Verdict>
+    ensures value { result ≡ first_of err (taking_refusals bytes.now) (Ok (header_in bytes.now)) }
+    ensures fits { IfOk result (λ header. (header.count ≤ 7) × (length bytes.now ≡ length_of header)) }
 {
     let half = half_of(bytes).ok_or(Verdict::placeless(verdicts::MESSAGE_LENGTH))?;
     let header = header_of(half);
@@ -37,15 +39,28 @@ fn taken_apart(bytes: &[u8]) -> Result<Message, Verdict>
         return Err(Verdict::placeless(verdicts::MESSAGE_LENGTH));
     }
     judge_header(header)?;
-    Ok(message_in(bytes, header))
+    Ok(header)
 }
 
 // A message taken apart, whether its list has its shape or not. Refusals: 40, 42, 41, 53, with place 0.
-#[tactic(auto, using(crate::proofs::Readings::taken_told))]
 pub fn take_message(bytes: &[u8]) -> MessageReading
     ensures { TakesMessage bytes.now result }
 {
-    MessageReading::from(taken_apart(bytes))
+    match header_taken(bytes) {
+        Ok(header) => MessageReading {
+            verdict: PASSED,
+            message: message_in(bytes, header),
+        },
+        Err(verdict) => MessageReading::from(Err(verdict)),
+    }
+}
+
+// A message taken apart, for `?`.
+fn taken_apart(bytes: &[u8]) -> Result<Message, Verdict>
+    ensures { result ≡ first_of err (taking_refusals bytes.now) (Ok (message_in bytes.now)) }
+{
+    let header = header_taken(bytes)?;
+    Ok(message_in(bytes, header))
 }
 
 // A message whose list is judged too.

@@ -14,7 +14,7 @@ use crate::rows::{Row, avs_with};
 use crate::tables::{AvsRow, RAILS, ROW_15_V, ROW_20_V, SUPPLIES};
 use lists::{Listing, NO_WORDS, Words};
 use steps::Ma10;
-use verdicts::Verdict;
+use verdicts::{PASSED, Verdict};
 
 // A word goes to the end of a list that has room.
 fn push(list: &mut Words, word: u32)
@@ -99,21 +99,22 @@ pub(crate) fn port_with_list(p: Profile) -> Result<Port, Verdict>
     Ok(port)
 }
 
-#[tactic(auto, using(crate::proofs::Builds::none_built))]
-fn built(p: Profile) -> Result<Words, Verdict>
-    ensures { result ≡ first_of err (build_refusals p) (Ok (built_words p)) }
-{
-    let port = port_with_list(p)?;
-    let mut list = NO_WORDS;
-    put_rails(&mut list, port);
-    put_avs(&mut list, port);
-    put_supplies(&mut list, port);
-    Ok(list)
-}
-
 // The list that a port with this profile advertises. Refusals: 1, 2, 3, 4, 5, 6.
+// It is put down where it is handed out: as a Result it was copied twice more, and that took half of the time again.
+#[tactic(auto, using(crate::proofs::Builds::build_refused, crate::proofs::Builds::build_clear))]
 pub fn build(p: Profile) -> Listing
     ensures { Builds p result }
 {
-    Listing::from(built(p))
+    let port = match port_with_list(p) {
+        Ok(port) => port,
+        Err(verdict) => return Listing::from(Err(verdict)),
+    };
+    let mut listing = Listing {
+        verdict: PASSED,
+        list: NO_WORDS,
+    };
+    put_rails(&mut listing.list, port);
+    put_avs(&mut listing.list, port);
+    put_supplies(&mut listing.list, port);
+    listing
 }

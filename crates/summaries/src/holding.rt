@@ -11,7 +11,7 @@ pub fn rows_of(summary: Summary) -> [[u16; 4]; 7]
     summary.rows
 }
 
-// One of the seven rows. A call of its own, since in the midst of its caller it would be read from a copy of all seven.
+// One of the seven rows: to answer reads no more (docs/DECISIONS.md, "Why `row_at` beside `rows_of`?").
 pub(crate) fn row_at(summary: Summary, at: usize) -> [u16; 4]
     requires { at < 7 }
     ensures { result ≡ get_or summary.rows at [] }

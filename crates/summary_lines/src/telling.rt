@@ -1,7 +1,7 @@
 // What is told of a summary.
 use lines::VerdictText;
 use std::fmt;
-use summaries::{Summarized, Summary};
+use summaries::Summarized;
 
 // The verdict, the count, and the four limits of all seven rows, those past the count too, in the order in which they stand.
 #[derive(Clone, Copy)]
@@ -10,8 +10,8 @@ pub struct SummarizedText(pub Summarized);
 impl fmt::Display for SummarizedText {
     fn fmt<W: fmt::Write>(&self, f: &mut fmt::Formatter<W>) -> fmt::Result {
         let Summarized { verdict, summary } = self.0;
-        let Summary { count, rows } = summary;
-        write!(f, "{} {count}", VerdictText(verdict))?;
+        let rows = summaries::rows_of(summary);
+        write!(f, "{} {}", VerdictText(verdict), summary.count)?;
         for [lowest, highest, below, above] in rows {
             write!(f, " {lowest} {highest} {below} {above}")?;
         }

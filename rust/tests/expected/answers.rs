@@ -1,5 +1,6 @@
-//! Every answer with a verdict as a `Result`: `?` gives the value or the refusal of the call itself.
+//! Every answer as a `Result` or an `Option`: `?` gives the value or the refusal of the call itself.
 
+use arinduleu::answers::*;
 use arinduleu::flat::{self, FlatObject, FlatObjects, FlatRequest};
 use arinduleu::lists::{self, Objects, Words};
 use arinduleu::messages::{self, Header, Message, LONGEST_MESSAGE};
@@ -8,7 +9,7 @@ use arinduleu::ports::{Row, NO_ROW};
 use arinduleu::rules::{self, Profile};
 use arinduleu::sinks::{self, SinkObject, SinkObjects};
 use arinduleu::steps::{HalfWatts, Ma10, Ma50, Mv100, Mv20, Mv25, Mv50};
-use arinduleu::summaries::{self, QuickRequest, Summary, TakenRequest};
+use arinduleu::summaries::{self, QuickAsked, QuickRequest, Summary, TakenRequest};
 use arinduleu::verdicts::Verdict;
 use arinduleu::{board, requests, verdicts, Refusal};
 
@@ -95,22 +96,26 @@ fn sink_lists() {
     let flags = refusal(verdicts::RESERVED_BIT, 2);
     assert_eq!(sinks::sink_read(twice).ok(), Err(flags));
 
-    let fixed = sinks::sink_decode(list.words[0]).unwrap();
-    assert_eq!(sinks::sink_encode(fixed), Some(list.words[0]));
+    let fixed = sinks::sink_decode(list.words[0]).ok().unwrap();
+    assert_eq!(sinks::sink_encode(fixed).or_too_wide(), Ok(list.words[0]));
+    let no_kind = refusal(verdicts::KIND_NOT_ALLOWED, 0);
     assert_eq!(sinks::sink_decode(0xE004_B12C), None);
+    assert_eq!(sinks::sink_decode(0xE004_B12C).ok(), Err(no_kind));
     let wide = SinkObject::Fixed {
         flags: 128,
         volts: Mv50(100),
         current: Ma10(300),
     };
     assert_eq!(sinks::sink_encode(wide), None);
+    let too_wide = refusal(verdicts::FIELD_TOO_WIDE, 0);
+    assert_eq!(sinks::sink_encode(wide).or_too_wide(), Err(too_wide));
 }
 
 #[test]
 fn summaries_and_decoded_requests() {
     fn answered(list: Words, word: u32) -> Result<bool, Refusal> {
         let summary = summaries::summarize(list).ok()?;
-        let TakenRequest::Quick(asked) = summaries::take_request(list, word)? else {
+        let Some(asked) = summaries::take_request(list, word)?.ok()? else {
             return Ok(false);
         };
         summaries::answer_summary(summary, asked).ok()?;
@@ -140,6 +145,8 @@ fn summaries_and_decoded_requests() {
     let no_kind = refusal(verdicts::KIND_NOT_ALLOWED, 0);
     assert_eq!(flat_answered(battery, 0x2003_20C8), Err(no_kind));
     // One that nobody gives: a refusal that is none.
+    let success: Result<TakenRequest, Verdict> = Err(Verdict::default());
+    assert_eq!(Answer::ok(success), Ok(None));
     assert_eq!(Refusal::from(Verdict::default()), refusal(255, 0));
 }
 
@@ -174,17 +181,22 @@ fn ports_that_share() {
 #[test]
 fn one_object() {
     let list = example().unwrap();
-    let fixed = objects::decode(list.words[0]).unwrap();
-    assert_eq!(objects::encode(fixed), Some(list.words[0]));
-    assert_eq!(flat::raise(flat::flatten(fixed)), Some(fixed));
+    let fixed = objects::decode(list.words[0]).ok().unwrap();
+    assert_eq!(objects::encode(fixed).or_too_wide(), Ok(list.words[0]));
+    assert_eq!(flat::raise(flat::flatten(fixed)).ok(), Ok(fixed));
+    let no_kind = refusal(verdicts::KIND_NOT_ALLOWED, 0);
     assert_eq!(objects::decode(0xF000_0000), None);
+    assert_eq!(objects::decode(0xF000_0000).ok(), Err(no_kind));
     let wide = objects::fixed_word(0, 4, Mv50(100), Ma10(300));
     assert_eq!(wide, None);
+    let too_wide = refusal(verdicts::FIELD_TOO_WIDE, 0);
+    assert_eq!(wide.or_too_wide(), Err(too_wide));
     let of_no_kind = FlatObject {
         kind: 5,
         ..FlatObject::default()
     };
     assert_eq!(flat::raise(of_no_kind), None);
+    assert_eq!(flat::raise(of_no_kind).ok(), Err(no_kind));
 }
 
 #[test]
@@ -193,16 +205,18 @@ fn one_word_of_a_list() {
     let default = rules::default_profile(HalfWatts(72)).ok().unwrap();
     let profile = Profile { pps: 1, ..default };
     for (at, word) in (1..).zip(list.as_slice()) {
-        assert_eq!(rules::word_at(profile, at), Some(*word));
+        assert_eq!(rules::word_at(profile, at).or_no_place(), Ok(*word));
     }
     assert_eq!(rules::word_at(profile, 7), None);
+    let no_place = refusal(verdicts::POSITION, 0);
+    assert_eq!(rules::word_at(profile, 7).or_no_place(), Err(no_place));
     assert_eq!(
         requests::answer(list, 0x7000_0000).ok(),
         Err(refusal(verdicts::POSITION, 0))
     );
 }
 
-/// The same by `From`, for code that is generic over it.
+/// The same by `From` where the answer has a type of its own, and by `Answer`, for code that is generic over it.
 #[test]
 fn answers_are_turned_into_results() {
     let list = example().unwrap();
@@ -218,9 +232,9 @@ fn answers_are_turned_into_results() {
     let summary: Result<Summary, Refusal> = summaries::summarize(list).into();
     assert_eq!(summary.unwrap().as_slice().len(), 6);
     let taken: Result<TakenRequest, Verdict> = summaries::take_request(list, 0x1004_B12C);
-    let Ok(TakenRequest::Quick(asked)) = taken else {
-        panic!("no request for a summary: {taken:?}");
-    };
+    assert!(matches!(taken, Ok(TakenRequest::Quick(_))), "{taken:?}");
+    let taken: Result<Option<QuickAsked>, Refusal> = taken.unwrap().into();
+    let asked = taken.unwrap().unwrap();
     let (operating, maximum) = (Ma10(300), Ma10(300));
     assert_eq!(asked.request, QuickRequest::Fixed { operating, maximum });
     let request: Result<FlatRequest, Refusal> = flat::flat_take_request(list, 0).into();
@@ -228,7 +242,8 @@ fn answers_are_turned_into_results() {
     let none = Words::default();
     let needs: Result<SinkObjects, Refusal> = sinks::sink_read(none).into();
     assert_eq!(needs, Err(refusal(verdicts::COUNT, 0)));
-    assert_eq!(sinks::sink_decode(0), Some(SinkObject::default()));
+    let object: Result<SinkObject, Refusal> = Answer::ok(sinks::sink_decode(0));
+    assert_eq!(object, Ok(SinkObject::default()));
     let message = Message::request(Header::default(), 0x4005_1545);
     let length: Result<usize, Refusal> = messages::write_message(&mut [0; 6], message).into();
     assert_eq!(length, Ok(6));
@@ -236,24 +251,65 @@ fn answers_are_turned_into_results() {
     assert_eq!(message, Err(refusal(verdicts::MESSAGE_LENGTH, 0)));
     let power: Result<HalfWatts, Refusal> = board::arin_remaining(&[], 15).into();
     assert_eq!(power, Err(refusal(verdicts::ROW_COUNT, 0)));
-    assert_eq!(objects::decode(0xD000_0000), None);
-    assert_eq!(objects::encode(Object::default()), Some(0));
-    assert_eq!(rules::word_at(default.profile, 0), None);
-    assert_eq!(flat::raise(FlatObject::default()), Some(Object::default()));
+    let object: Result<Object, Refusal> = Answer::ok(objects::decode(0xD000_0000));
+    assert_eq!(object, Err(refusal(verdicts::KIND_NOT_ALLOWED, 0)));
+    let word: Result<u32, Refusal> = objects::encode(Object::default()).or_too_wide();
+    assert_eq!(word, Ok(0));
+    let word: Result<u32, Refusal> = rules::word_at(default.profile, 0).or_no_place();
+    assert_eq!(word, Err(refusal(verdicts::POSITION, 0)));
+    let object: Result<Object, Refusal> = Answer::ok(flat::raise(FlatObject::default()));
+    assert_eq!(object, Ok(Object::default()));
+}
+
+/// One function over answers of any type.
+#[test]
+fn whatever_the_answer() {
+    fn number<A: Answer>(answer: A) -> Option<u8> {
+        answer.ok().err().map(Refusal::number)
+    }
+    let list = example().unwrap();
+    let none = Words::default();
+    let profile = rules::default_profile(HalfWatts(0));
+    let message = Message::request(Header::default(), 0);
+    assert_eq!(number(lists::shape(list)), None);
+    assert_eq!(number(lists::shape(none)), Some(verdicts::COUNT));
+    assert_eq!(number(profile), Some(verdicts::PORT_MAXIMUM));
+    let built = rules::build(profile.profile);
+    assert_eq!(number(built), Some(verdicts::PORT_MAXIMUM));
+    assert_eq!(number(lists::read(none)), Some(verdicts::COUNT));
+    assert_eq!(number(flat::flat_read(none)), Some(verdicts::COUNT));
+    assert_eq!(number(sinks::sink_read(none)), Some(verdicts::COUNT));
+    assert_eq!(number(summaries::summarize(none)), Some(verdicts::COUNT));
+    let taken = summaries::take_request(list, 0x1004_B12C);
+    assert_eq!(number(taken), None);
+    assert_eq!(number(taken.unwrap()), None);
+    let nowhere = summaries::take_request(list, 0x7000_0000);
+    assert_eq!(number(nowhere), Some(verdicts::POSITION));
+    let nowhere = flat::flat_take_request(list, 0x7000_0000);
+    assert_eq!(number(nowhere), Some(verdicts::POSITION));
+    let short = messages::read_message(&[]);
+    assert_eq!(number(short), Some(verdicts::MESSAGE_LENGTH));
+    let short = messages::write_message(&mut [], message);
+    assert_eq!(number(short), Some(verdicts::BUFFER_TOO_SHORT));
+    let no_rows = board::arin_remaining(&[], 15);
+    assert_eq!(number(no_rows), Some(verdicts::ROW_COUNT));
+    let no_kind = Some(verdicts::KIND_NOT_ALLOWED);
+    assert_eq!(number(objects::decode(0xD000_0000)), no_kind);
+    assert_eq!(number(sinks::sink_decode(0xD000_0000)), no_kind);
 }
 
 #[test]
 fn conversions() {
-    assert_eq!(Mv50(100).to_mv20(), Some(Mv20(250)));
-    assert_eq!(Mv50(1).to_mv20(), None);
-    assert_eq!(Mv50(100).to_mv25(), Some(Mv25(200)));
-    assert_eq!(Mv50(40000).to_mv25(), None);
-    assert_eq!(Mv100(50).to_mv50(), Some(Mv50(100)));
-    assert_eq!(Mv20(1).to_mv50(), None);
-    assert_eq!(Mv50(100).to_mv100(), Some(Mv100(50)));
-    assert_eq!(Mv50(101).to_mv100(), None);
-    assert_eq!(Ma50(60).to_ma10(), Some(Ma10(300)));
-    assert_eq!(Ma50(20000).to_ma10(), None);
-    assert_eq!(Ma10(300).to_ma50(), Some(Ma50(60)));
-    assert_eq!(Ma10(301).to_ma50(), None);
+    assert_eq!(Mv50(100).to_mv20().exact(), Some(Mv20(250)));
+    assert_eq!(Mv50(1).to_mv20().exact(), None);
+    assert_eq!(Mv50(100).to_mv25().exact(), Some(Mv25(200)));
+    assert_eq!(Mv50(40000).to_mv25().exact(), None);
+    assert_eq!(Mv100(50).to_mv50().exact(), Some(Mv50(100)));
+    assert_eq!(Mv20(1).to_mv50().exact(), None);
+    assert_eq!(Mv50(100).to_mv100().exact(), Some(Mv100(50)));
+    assert_eq!(Mv50(101).to_mv100().exact(), None);
+    assert_eq!(Ma50(60).to_ma10().exact(), Some(Ma10(300)));
+    assert_eq!(Ma50(20000).to_ma10().exact(), None);
+    assert_eq!(Ma10(300).to_ma50().exact(), Some(Ma50(60)));
+    assert_eq!(Ma10(301).to_ma50().exact(), None);
 }

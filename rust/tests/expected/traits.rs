@@ -10,7 +10,7 @@ use arinduleu::sinks::{self, SinkObject, SinkObjects, SinkPlace, EMPTY_SINK_PLAC
 use arinduleu::steps::{HalfWatts, Ma10, Ma50, Mv100, Mv20, Mv25, Mv50, Mw250};
 use arinduleu::summaries::{self, Summary};
 use arinduleu::verdicts::{self, Verdict};
-use arinduleu::Refusal;
+use arinduleu::{Refusal, Word};
 use std::collections::{BTreeSet, HashSet};
 
 #[test]
@@ -43,6 +43,12 @@ fn words_are_shown_in_hex() {
         format!("{:?}", summaries::take_request(list, 0x1400_2803)),
         "Ok(Quick(QuickAsked { position: 1, mismatch: true, request: Fixed { operating: Ma10(10), maximum: Ma10(3) } }))"
     );
+    assert_eq!(format!("{:?}", Word(0xC8DC_323C)), "Word(0xC8DC323C)");
+    assert_eq!(format!("{:?}", Word(10)), "Word(0x0000000A)");
+    let word = objects::encode(objects::decode(0xC8DC_323C).unwrap());
+    assert_eq!(format!("{:?}", word.map(Word)), "Some(Word(0xC8DC323C))");
+    let too_wide = objects::fixed_word(0, 4, Mv50(100), Ma10(300));
+    assert_eq!(format!("{:?}", too_wide.map(Word)), "None");
     let listing = lists::refuse(verdicts::ORDER, 3);
     assert!(format!("{listing:?}").contains("Words { words: [0x00000000, "));
 }
