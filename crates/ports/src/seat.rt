@@ -54,6 +54,7 @@ impl Seat {
     }
 
     // The same of a port that is attached. Refusals: those, then 35.
+    #[tactic(auto, using(crate::proofs::Passed::use_empty, crate::proofs::Passed::use_passes))]
     fn left_in_use(self) -> Result<u32, Verdict>
         ensures { result ≡ first_of err (use_end_refusals self.capacity.0 self.standing self.row self.port) (Ok (left_beside self.capacity.0 self.standing self.row)) }
     {

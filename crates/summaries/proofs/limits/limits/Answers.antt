@@ -1,25 +1,37 @@
 -- `summaries::limits::limits` meets its contract: each kind has its row of the table.
 -- Assumes nothing.
-use mathlib.Core.Path.{ap, sym, ◌∙◌}
+use mathlib.Core.Path.{◌≡◌, ap, sym, ◌∙◌}
 use Prim.Native.Nat.{ℕ, ◌*◌}
 use Rattle.summaries.specs.Summaries.{row, limits_of}
 use Rattle.summaries.proofs.limits.limits.Goals as goal
 
 pub returns-in-Fixed : goal.returns-in-Fixed
 unfolding limits_of
-returns-in-Fixed c = c.level.ensures ∙ ap limits_of (sym c.in-Fixed.is)
+returns-in-Fixed c =
+    let x = c.in-Fixed in
+    let is : row (x.volts.0 * 50) (x.volts.0 * 50) (x.current.0 * 10) (x.current.0 * 10) ≡ limits_of c.args.o = ap limits_of (sym x.is) in
+    cc
 
 pub returns-in-Battery : goal.returns-in-Battery
 unfolding limits_of
-returns-in-Battery c = c.level-in-Battery.ensures ∙ ap limits_of (sym c.in-Battery.is)
+returns-in-Battery c =
+    let x = c.in-Battery in
+    let is : row (x.min.0 * 50) (x.max.0 * 50) 0 0 ≡ limits_of c.args.o = ap limits_of (sym x.is) in
+    cc
 
 pub returns-in-Variable : goal.returns-in-Variable
 unfolding limits_of
-returns-in-Variable c = c.level-in-Variable.ensures ∙ ap limits_of (sym c.in-Variable.is)
+returns-in-Variable c =
+    let x = c.in-Variable in
+    let is : row (x.min.0 * 50) (x.max.0 * 50) (x.current.0 * 10) (x.current.0 * 10) ≡ limits_of c.args.o = ap limits_of (sym x.is) in
+    cc
 
 pub returns-in-Pps : goal.returns-in-Pps
 unfolding limits_of
-returns-in-Pps c = c.level-in-Pps.ensures ∙ ap limits_of (sym c.in-Pps.is)
+returns-in-Pps c =
+    let x = c.in-Pps in
+    let is : row (x.min.0 * 100) (x.max.0 * 100) (x.current.0 * 50) (x.current.0 * 50) ≡ limits_of c.args.o = ap limits_of (sym x.is) in
+    cc
 
 pub returns-in-Avs : goal.returns-in-Avs
 unfolding limits_of

@@ -3,7 +3,7 @@
 use Rattle.std.specs.Prelude.{Option, Some, None, Ok, Err}
 use Rattle.std.specs.Option.{ok_or}
 use mathlib.Core.Path.{◌≡◌, refl, ap, sym, ◌∙◌, subst}
-use mathlib.Core.Bool.{false}
+use mathlib.Core.Bool.{true, false}
 use Prim.Native.Nat.{ℕ, ◌-◌, ◌<◌, ◌≤◌}
 use native.Mathlib.Omega.{arith}
 use lib.ListN.{get_or}
@@ -26,18 +26,20 @@ use Rattle.summaries.proofs.taking.named.Goals.{then-position-lt1-via-then-posit
 pub returns-then-bad_count : goal.returns-then-bad_count
 returns-then-bad_count c =
     let x = c.args in
-    ap Err c.placeless.ensures ∙ sym (miscounted_as x.list x.word err _ (sym c.bad_count.ensures ∙ c.if-bad_count.true))
+    let first = miscounted_as x.list x.word err (Ok (object_of (named_by x.list x.word))) (sym c.bad_count.ensures ∙ c.if-bad_count.true) in
+    cc
 
 pub returns-then-position-lt1 : goal.returns-then-position-lt1
 returns-then-position-lt1 c =
     let x = c.args in
     let n = c.position-position.ensures in
-    ap Err c.placeless-then-position-lt1.ensures
-    ∙ sym (misplaced_as x.list x.word err _ (sym c.bad_count.ensures ∙ c.if-bad_count.false) (elim c.then-position-lt1.branch [
+    let bad : bad_position x.list.count (position_of x.word) ≡ true = elim c.then-position-lt1.branch [
       | then-position-lt1-via-then-position-lt1 w ↦ position_zero _ _ (subst (λ (k : ℕ). k < 1) n w.if-position-lt1.true)
       | then-position-lt1-via-else-position-lt1+then-list-position w ↦
           position_past _ _ (subst (λ (k : ℕ). 1 ≤ k) n w.if-position-lt1.false) (subst (λ (k : ℕ). x.list.count < k) n w.if-list-position.true)
-    ]))
+    ] in
+    let first = misplaced_as x.list x.word err (Ok (object_of (named_by x.list x.word))) (sym c.bad_count.ensures ∙ c.if-bad_count.false) bad in
+    cc
 
 -- the word that is read is the one that is named; of no kind it is refused with its place
 by_word : (l : Words) (w n : ℕ) (d : Option Object) (v : Verdict) → n ≡ position_of w → v ≡ verdict 12 n → d ≡ decode_of (get_or l.words (n - 1) 0)
@@ -62,5 +64,5 @@ returns c =
     let from : 1 ≤ position_of x.word = omega (arith, n) in
     let to : position_of x.word ≤ x.list.count = omega (arith, n) in
     c.ok_or.ensures.value
-    ∙ by_word x.list x.word _ _ _ n c.at.ensures (decoded_is _ _ c.decode-d.ensures) (sym c.bad_count.ensures ∙ c.if-bad_count.false)
+    ∙ by_word x.list x.word _ _ _ n (cc) (decoded_is _ _ c.decode-d.ensures) (sym c.bad_count.ensures ∙ c.if-bad_count.false)
     (position_good _ _ from to)
