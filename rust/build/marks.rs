@@ -74,7 +74,7 @@ pub const WHOLE: [&str; 2] = ["lists::shape", "lists::shape_sink"];
 pub const PUT_IN: [&str; 14] = [
     "objects::decode_sink",
     "objects::encode",
-    "rules::built",
+    "rules::build",
     "rules::put_rails",
     "rules::put_supplies",
     "requests::take_apart",

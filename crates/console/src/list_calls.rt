@@ -2,7 +2,7 @@
 ghost use Rattle.std.specs.Prelude.{[], ◌∷◌, ◌++◌, Some};
 ghost use Rattle.lines.specs.Numbers.{numbers_text, verdict_text};
 
-use lines::{Fields, ListingText, Unreadable, VerdictText};
+use lines::{Fields, ListingText, NumbersText, Unreadable, VerdictText};
 use rules::{Profile, Profiled};
 use std::fmt;
 use steps::{HalfWatts, Ma10};
@@ -36,14 +36,15 @@ impl fmt::Display for DefaultText {
             pps,
             flags,
         } = profile;
-        write!(
-            f,
-            "{} {} {} {} {rounding} {pps} {flags}",
-            VerdictText(verdict),
+        let numbers = [
             max.0,
             present.0,
-            cable.0
-        )
+            cable.0,
+            u16::from(rounding),
+            u16::from(pps),
+            u16::from(flags),
+        ];
+        write!(f, "{}{}", VerdictText(verdict), NumbersText(&numbers))
     }
 }
 

@@ -1,135 +1,84 @@
 // From standard input to standard output, a block at a time.
-use crate::answering::{LONGEST_LINE, answer_line};
-use ports::Row;
-use std::alloc::{AllocError, Global};
-use std::fmt;
-use std::io::Read;
+use crate::answering::answer_line;
+use crate::answers::Answers;
+use crate::line::Line;
+use crate::table::Table;
+use std::io;
+use std::io::{Read, Write};
 
-// Why the console stops before the end of its input.
-#[derive(Clone, Copy, Debug)]
-pub(crate) enum Stop {
-    Unread,
-    Unwritten,
-    // Not read, and then not written.
-    Neither,
-    OutOfMemory,
-}
-
-impl From<AllocError> for Stop {
-    fn from(_error: AllocError) -> Stop {
-        Stop::OutOfMemory
-    }
-}
-
-impl fmt::Display for Stop {
-    fn fmt<W: fmt::Write>(&self, f: &mut fmt::Formatter<W>) -> fmt::Result {
-        f.write_str(match self {
-            Stop::Unread => "standard input cannot be read",
-            Stop::Unwritten => "standard output cannot be written",
-            Stop::Neither => {
-                "standard input cannot be read\nconsole: standard output cannot be written"
-            }
-            Stop::OutOfMemory => "out of memory",
-        })
-    }
-}
-
-// The console between two bytes.
+// What the console has between two bytes.
 #[derive(Drop)]
-struct Console {
-    // The port rows. At the start there are none.
-    table: Vec<Row>,
-    // The line so far. Of a line that is too long only so much is kept that this can be seen.
-    line: Vec<u8>,
-    // What was answered and is not yet written.
-    answers: String,
+struct Console<W: Write> {
+    table: Table,
+    // The line so far, where a block ended within it.
+    begun: Line,
+    answers: Answers<W>,
 }
 
-impl Console {
-    fn new(alloc: Global) -> Console {
-        Console {
-            table: Vec::new(alloc),
-            line: Vec::new(alloc),
-            answers: String::new(alloc),
+impl<W: Write> Console<W> {
+    // Answers a line that lies in one block where it stands, and another once it is whole.
+    fn end_line(&mut self, end: &[u8]) {
+        if self.begun.is_empty() {
+            answer_line(&mut self.answers, &mut self.table, end);
+            return;
         }
+        self.begun.lengthen(end);
+        answer_line(&mut self.answers, &mut self.table, self.begun.bytes());
+        self.begun.clear();
     }
 
-    fn lengthen_line(&mut self, bytes: &[u8]) -> Result<(), AllocError> {
-        let room = (LONGEST_LINE + 1).saturating_sub(self.line.len());
-        let kept = bytes.get(..room).unwrap_or(bytes);
-        self.line.extend_from_slice(kept)?;
-        Ok(())
-    }
-
-    // Answers the line in hand and begins the next one.
-    fn end_line(&mut self) -> Result<(), AllocError> {
-        answer_line(&mut self.answers, &mut self.table, self.line.as_slice())?;
-        self.line.clear();
-        Ok(())
-    }
-
-    fn take_block(&mut self, block: &[u8]) -> Result<(), AllocError> {
+    fn take_block(&mut self, block: &[u8]) {
         for part in block.split_inclusive(|b| *b == b'\n') {
             match part.strip_suffix(b"\n") {
-                Some(end) => {
-                    self.lengthen_line(end)?;
-                    self.end_line()?;
-                }
-                None => self.lengthen_line(part)?,
+                Some(end) => self.end_line(end),
+                None => self.begun.lengthen(part),
             }
         }
-        Ok(())
     }
 
     // The end of the input ends the last line too, if there are bytes in it.
-    fn end_input(&mut self) -> Result<(), AllocError> {
-        if self.line.is_empty() {
-            return Ok(());
+    fn end_input(&mut self, rt: &impl Eprint) {
+        if self.begun.is_empty() {
+            return;
         }
-        self.end_line()
+        self.end_line(b"");
+        self.write_answers(rt);
     }
 
-    fn write_answers(&mut self, rt: &impl Print) -> Result<(), Stop> {
-        rt.write_all(self.answers.as_bytes())
-            .map_err(|_| Stop::Unwritten)?;
-        self.answers.clear();
-        Ok(())
+    // Whether what waits could be written. The program ends with status 0 whatever happened, so it says what it could not do.
+    fn write_answers(&mut self, rt: &impl Eprint) -> bool {
+        let written = self.answers.write_out();
+        if self.answers.take_lost() {
+            let _ = rt.eprint("console: standard output cannot be written\n");
+        }
+        written
     }
 }
 
-// Reads to the end of the input. Whoever typed a line sees its answer before the console waits for more.
-fn serve_blocks(rt: &impl Print, input: &mut impl Read, console: &mut Console) -> Result<(), Stop> {
+// Reads to the end of the input. Whoever typed a line sees its answer before the console waits for more. Where nothing can be written any more no
+// line is answered.
+pub(crate) fn serve(rt: &(impl Print + Eprint + Input)) {
+    let mut input = rt.reader();
+    let mut console = Console {
+        table: Table::new(),
+        begun: Line::new(),
+        answers: Answers::new(io::writer(rt)),
+    };
     // A proved loop has to end, and nothing says that the input does. The turns are more than any run uses up.
     for _ in 0..u64::MAX {
-        console.write_answers(rt)?;
+        if !console.write_answers(rt) {
+            return;
+        }
         let mut block = [0u8; 4096];
-        let length = input.read(&mut block).map_err(|_| Stop::Unread)?;
+        let Ok(length) = input.read(&mut block) else {
+            let _ = rt.eprint("console: standard input cannot be read\n");
+            break;
+        };
         if length == 0 {
             break;
         }
-        console.take_block(&block[..length])?;
+        console.take_block(&block[..length]);
     }
-    Ok(())
-}
-
-// The last line, and what waits.
-fn finish(rt: &impl Print, console: &mut Console) -> Result<(), Stop> {
-    console.end_input()?;
-    console.write_answers(rt)
-}
-
-pub(crate) fn serve(rt: &(impl Print + Input + AllocGlobal)) -> Result<(), Stop> {
-    let mut input = rt.reader();
-    let mut console = Console::new(rt.alloc());
-    let served = serve_blocks(rt, &mut input, &mut console);
     // What was read before it could be read no further is answered.
-    match served {
-        Ok(()) => finish(rt, &mut console),
-        Err(Stop::Unread) => match finish(rt, &mut console) {
-            Ok(()) => Err(Stop::Unread),
-            Err(Stop::Unwritten) => Err(Stop::Neither),
-            Err(stop) => Err(stop),
-        },
-        Err(stop) => Err(stop),
-    }
+    console.end_input(rt);
 }

@@ -48,6 +48,11 @@ decimal_length n h =
       digit_length 10 n,
     )
 
+-- any other has at most five here
+pub number_length : (n : ℕ) → length (decimal n) ≤ 5
+number_length n =
+    omega (arith, parts n, digit_length 10000 n, digit_length 1000 n, digit_length 100 n, digit_length 10 n)
+
 word_length : (w : ℕ) → length (hex_word w) ≡ 8
 unfolding hex_word
 word_length w = refl

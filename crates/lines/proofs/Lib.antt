@@ -3,5 +3,5 @@ pub mod Lengths
 pub mod HexDigits
 pub mod Places
 pub mod Digits
-pub mod HexWord
 pub mod Telling
+pub mod Decimals

@@ -3,6 +3,9 @@
 use Rattle.std.specs.Prelude.{List, [], ◌∷◌, ◌++◌, ℕ}
 use Rattle.std.specs.Fmt.{decimal}
 
+abbrev pub number_text : ℕ → List ℕ
+number_text n = decimal n
+
 abbrev pub numbers_text : List ℕ → List ℕ
 numbers_text [] = []
 numbers_text (n ∷ ns) = 32 ∷ decimal n ++ numbers_text ns

@@ -7,5 +7,5 @@ mod printing;
 mod text;
 
 pub use fields::{Fields, Unreadable};
-pub use printing::{ListingText, VerdictText, WordsText};
+pub use printing::{ListingText, MOST_NUMBERS, NumbersText, VerdictText, WordsText};
 pub use text::{LONGEST, put_line};

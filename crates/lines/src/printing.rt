@@ -1,12 +1,19 @@
 // What is told, as it is printed.
-ghost use Rattle.std.specs.Prelude.{[], ◌++◌, ◌∷◌, Some};
+ghost use Rattle.std.specs.Prelude.{◌≡◌, [], ◌++◌, ◌∷◌, Some, IfOk, take};
 ghost use Rattle.lines.specs.Numbers.{numbers_text, verdict_text};
-ghost use Rattle.lines.specs.Text.{hex_word, places_text};
+ghost use Rattle.lines.specs.Text.{places_text};
 
-use crate::text::places_that_count;
+use crate::text::{PLACES, put_numbers, put_places, put_verdict};
 use lists::{Listing, Words};
 use std::fmt;
 use verdicts::Verdict;
+
+// Text that was put together in a block, so that it is written at once.
+fn told(text: &[u8]) -> Result<&str, fmt::Error>
+    ensures { IfOk result (λ told. told.now ≡ text.now) }
+{
+    str::from_utf8(text).map_err(|_| fmt::Error)
+}
 
 // The number and the place, with which every answer begins.
 #[derive(Clone, Copy)]
@@ -16,21 +23,28 @@ impl fmt::Display for VerdictText {
     ghost output = { λ v. Some (verdict_text v.0.number v.0.place) };
 
     fn fmt<W: fmt::Write>(&self, f: &mut fmt::Formatter<W>) -> fmt::Result {
-        write!(f, "{} {}", self.0.number, self.0.place)
+        let mut text = [0; 11];
+        let end = put_verdict(&mut text, 0, self.0);
+        f.write_str(told(&text[..end])?)
     }
 }
 
-// A space and the word.
+// As many numbers as a table of nine rows has, the most that is told at once.
+pub const MOST_NUMBERS: usize = 46;
+
+// A space before each of these numbers. What follows the most that are told at once is left out.
 #[derive(Clone, Copy)]
-struct PlaceText(u32);
+pub struct NumbersText<'a>(pub &'a [u16]);
 
-impl fmt::Display for PlaceText {
-    ghost output = { λ w. Some (32 ∷ hex_word w.0) };
+impl fmt::Display for NumbersText<'_> {
+    ghost output = { λ t. Some (numbers_text (take 46 t.0.now)) };
 
-    #[tactic(auto, using(crate::proofs::HexWord::padded_hex_word))]
+    #[tactic(auto, using(crate::proofs::Telling::at_most))]
     fn fmt<W: fmt::Write>(&self, f: &mut fmt::Formatter<W>) -> fmt::Result {
-        let word = self.0;
-        write!(f, " {word:08X}")
+        let mut text = [0; 6 * MOST_NUMBERS];
+        let numbers = &self.0[..MOST_NUMBERS.min(self.0.len())];
+        let end = put_numbers(&mut text, 0, numbers);
+        f.write_str(told(&text[..end])?)
     }
 }
 
@@ -45,10 +59,10 @@ impl fmt::Display for WordsText {
     ghost output = { λ t. Some (places_text t.words t.count 7) };
 
     fn fmt<W: fmt::Write>(&self, f: &mut fmt::Formatter<W>) -> fmt::Result {
-        for word in &self.words[..places_that_count(self.count)] {
-            write!(f, "{}", PlaceText(*word))?;
-        }
-        Ok(())
+        // All in one write: with `{:08X}` for each word a line took up to twice the time.
+        let mut text = [0; PLACES];
+        let end = put_places(&mut text, 0, self.words, self.count);
+        f.write_str(told(&text[..end])?)
     }
 }
 
@@ -62,11 +76,10 @@ impl fmt::Display for ListingText {
     fn fmt<W: fmt::Write>(&self, f: &mut fmt::Formatter<W>) -> fmt::Result {
         let Listing { verdict, list } = self.0;
         let Words { words, count } = list;
-        write!(
-            f,
-            "{} {count}{}",
-            VerdictText(verdict),
-            WordsText { words, count }
-        )
+        let mut text = [0; 80];
+        let place = put_verdict(&mut text, 0, verdict);
+        let first = put_numbers(&mut text, place, &[u16::from(count)]);
+        let end = put_places(&mut text, first, words, count);
+        f.write_str(told(&text[..end])?)
     }
 }

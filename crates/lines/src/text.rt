@@ -1,7 +1,10 @@
 // Text put into a block of bytes at a place, as `caps` prints it: each function answers the place after its text. The block and the place
 // stay as they are, and no text that grows comes in their stead: `put_line` promises `PutWhereRoom`, on which what `caps` prints rests.
-ghost use Rattle.std.specs.Prelude.{◌≡◌, [], ◌∷◌, ◌+◌, ◌≤◌, ◌<◌, min, length};
+ghost use Rattle.std.specs.Prelude.{◌≡◌, [], ◌∷◌, ◌+◌, ◌*◌, ◌≤◌, ◌<◌, min, length};
+ghost use Rattle.lines.specs.Numbers.{number_text, numbers_text, verdict_text};
 ghost use Rattle.lines.specs.Text.{Appended, PutWhereRoom, digit_from, decimal, hex_word, places_text, line_of};
+
+use verdicts::Verdict;
 
 const HEX_DIGITS: [u8; 16] = [
     b'0', b'1', b'2', b'3', b'4', b'5', b'6', b'7', b'8', b'9', b'A', b'B', b'C', b'D', b'E', b'F',
@@ -40,6 +43,48 @@ fn put_decimal(out: &mut [u8], at: usize, n: u16) -> usize
     put_byte(out, ones, b'0' + (n % 10) as u8)
 }
 
+// A number as the console tells it.
+#[tactic(auto, using(crate::proofs::Decimals::told, crate::proofs::Lengths::number_length))]
+fn put_number(out: &mut [u8], at: usize, n: u16) -> usize
+    requires { at + 5 ≤ length out.old }
+    ensures text { Appended out.old at (number_text n) out.new result }
+    ensures end { result ≤ at + 5 }
+{
+    put_decimal(out, at, n)
+}
+
+// A number that is not the first of its line.
+fn put_field(out: &mut [u8], at: usize, n: u16) -> usize
+    requires { at + 6 ≤ length out.old }
+    ensures text { Appended out.old at (numbers_text (n ∷ [])) out.new result }
+    ensures end { result ≤ at + 6 }
+{
+    let first = put_byte(out, at, b' ');
+    put_number(out, first, n)
+}
+
+pub(crate) fn put_numbers(out: &mut [u8], at: usize, numbers: &[u16]) -> usize
+    requires { at + 6 * length numbers.now ≤ length out.old }
+    ensures text { Appended out.old at (numbers_text numbers.now) out.new result }
+    ensures end { result ≤ at + 6 * length numbers.now }
+{
+    let mut next = at;
+    for n in numbers {
+        next = put_field(out, next, *n);
+    }
+    next
+}
+
+// The number and the place, with which every answer begins.
+pub(crate) fn put_verdict(out: &mut [u8], at: usize, verdict: Verdict) -> usize
+    requires { at + 11 ≤ length out.old }
+    ensures text { Appended out.old at (verdict_text verdict.number verdict.place) out.new result }
+    ensures end { result ≤ at + 11 }
+{
+    let next = put_number(out, at, u16::from(verdict.number));
+    put_field(out, next, u16::from(verdict.place))
+}
+
 #[tactic(auto, unfolding(crate::specs::Text::hex_word))]
 fn put_hex_word(out: &mut [u8], at: usize, w: u32) -> usize
     requires { at + 8 ≤ length out.old }
@@ -62,14 +107,17 @@ fn put_place(out: &mut [u8], at: usize, w: u32) -> usize
     put_hex_word(out, next, w)
 }
 
-pub(crate) fn places_that_count(count: u8) -> usize
+fn places_that_count(count: u8) -> usize
     ensures { result ≡ min count 7 }
 {
     usize::from(count.min(7))
 }
 
+// Seven words, with a space before each.
+pub(crate) const PLACES: usize = 63;
+
 // The words come by themselves: a whole list, copied for the call, would have to wait for the words just written.
-fn put_places(out: &mut [u8], at: usize, words: [u32; 7], count: u8) -> usize
+pub(crate) fn put_places(out: &mut [u8], at: usize, words: [u32; 7], count: u8) -> usize
     requires { at + 63 ≤ length out.old }
     ensures { Appended out.old at (places_text words count 7) out.new result }
 {

@@ -1,43 +1,56 @@
 // The fields of a message.
-use arrayvec::ArrayVec;
+ghost use Rattle.std.specs.Prelude.{◌≤◌, IfOk};
+
 use lines::{Fields, Unreadable};
 use messages::Header;
 
-// The most bytes that a line can have, typed or lent.
+// The most bytes that a line can have, typed or lent. They lie in an array with a count, since the console has no heap.
 pub(crate) const MOST_BYTES: usize = 40;
 
-pub(crate) type Bytes = ArrayVec<u8, MOST_BYTES>;
+#[derive(Clone, Copy)]
+pub(crate) struct Bytes {
+    pub bytes: [u8; MOST_BYTES],
+    pub count: u8,
+}
 
-// What the console fills the buffer with before the call.
-const FILL: u8 = 0xAA;
-
-// The same byte so often, and forty times where that is less.
-fn filled(byte: u8, length: usize) -> Bytes {
-    let mut bytes = ArrayVec::from([byte; MOST_BYTES]);
-    bytes.truncate(length);
-    bytes
+// A hex digit, small and capital letters alike.
+fn digit(b: u8) -> Result<u8, Unreadable> {
+    let digit = char::from(b).to_digit(16).ok_or(Unreadable)?;
+    Ok(digit as u8)
 }
 
 // Hex digits, two for each byte, or `-` for no byte. Half a byte and a byte past the fortieth are left over.
-pub(crate) fn take_bytes(fields: &mut Fields<'_>) -> Result<Bytes, Unreadable> {
+pub(crate) fn take_bytes(fields: &mut Fields<'_>) -> Result<Bytes, Unreadable>
+    ensures { IfOk result (λ typed. typed.count ≤ 40) }
+{
     let digits = match fields.text()? {
         "" => return Err(Unreadable),
         "-" => "",
         text => text,
     };
-    let mut bytes = filled(0, digits.len() / 2);
-    hex::decode_to_slice(digits, bytes.as_mut_slice()).map_err(|_| Unreadable)?;
-    Ok(bytes)
-}
-
-// The buffer that is lent, which has so many bytes.
-pub(crate) fn take_room(fields: &mut Fields<'_>) -> Result<Bytes, Unreadable> {
-    let room: u8 = fields.number()?;
-    let room = usize::from(room);
-    if MOST_BYTES < room {
+    let (pairs, half) = digits.as_bytes().as_chunks::<2>();
+    if !half.is_empty() || MOST_BYTES < pairs.len() {
         return Err(Unreadable);
     }
-    Ok(filled(FILL, room))
+    let mut bytes = [0; MOST_BYTES];
+    for (byte, [high, low]) in bytes.iter_mut().zip(pairs) {
+        *byte = digit(*high)? << 4 | digit(*low)?;
+    }
+    Ok(Bytes {
+        bytes,
+        count: pairs.len() as u8,
+    })
+}
+
+// How many bytes the buffer has that is lent.
+pub(crate) fn take_room(fields: &mut Fields<'_>) -> Result<u8, Unreadable>
+    ensures { IfOk result (λ room. room ≤ 40) }
+{
+    let room = fields.number()?;
+    if MOST_BYTES < usize::from(room) {
+        return Err(Unreadable);
+    }
+    Ok(room)
 }
 
 // `EXT COUNT ID PROLE REV DROLE TYPE`

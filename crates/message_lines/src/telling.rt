@@ -3,7 +3,7 @@ ghost use Rattle.std.specs.Prelude.{◌++◌, Some};
 ghost use Rattle.lines.specs.Numbers.{verdict_text};
 ghost use Rattle.message_lines.specs.Telling.{header_text, message_text};
 
-use crate::fields::Bytes;
+use crate::fields::{Bytes, MOST_BYTES};
 use lines::{VerdictText, WordsText};
 use messages::{Header, Message, MessageReading, Written};
 use std::fmt;
@@ -53,8 +53,13 @@ impl fmt::Display for MessageText {
     }
 }
 
+// The hex digits are capitals.
+fn digit(digit: u8) -> u8 {
+    b"0123456789ABCDEF"[usize::from(digit % 16)]
+}
+
 // The verdict, the length, and the whole buffer as it is after the call: two digits for each byte, or `-` where there is none.
-#[derive(Drop)]
+#[derive(Clone, Copy)]
 pub struct WrittenText {
     pub(crate) written: Written,
     pub(crate) buffer: Bytes,
@@ -64,12 +69,17 @@ impl fmt::Display for WrittenText {
     fn fmt<W: fmt::Write>(&self, f: &mut fmt::Formatter<W>) -> fmt::Result {
         let Written { verdict, length } = self.written;
         write!(f, "{} {length} ", VerdictText(verdict))?;
-        if self.buffer.is_empty() {
+        let Bytes { bytes, count } = self.buffer;
+        if count == 0 {
             return write!(f, "-");
         }
-        for byte in self.buffer.as_slice() {
-            write!(f, "{byte:02X}")?;
+        // All in one write: with `{:02X}` for each byte the line took up to twice the time.
+        let mut text = [0; 2 * MOST_BYTES];
+        let (pairs, _) = text.as_chunks_mut::<2>();
+        for (pair, byte) in pairs.iter_mut().zip(&bytes) {
+            *pair = [digit(byte / 16), digit(byte % 16)];
         }
-        Ok(())
+        let told = text.get(..2 * usize::from(count)).unwrap_or(&text);
+        f.write_str(str::from_utf8(told).map_err(|_| fmt::Error)?)
     }
 }

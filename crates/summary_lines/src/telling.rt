@@ -1,5 +1,5 @@
 // What is told of a summary.
-use lines::VerdictText;
+use lines::{NumbersText, VerdictText};
 use std::fmt;
 use summaries::Summarized;
 
@@ -10,10 +10,10 @@ pub struct SummarizedText(pub Summarized);
 impl fmt::Display for SummarizedText {
     fn fmt<W: fmt::Write>(&self, f: &mut fmt::Formatter<W>) -> fmt::Result {
         let Summarized { verdict, summary } = self.0;
-        let rows = summaries::rows_of(summary);
-        write!(f, "{} {}", VerdictText(verdict), summary.count)?;
-        for [lowest, highest, below, above] in rows {
-            write!(f, " {lowest} {highest} {below} {above}")?;
+        let count = [u16::from(summary.count)];
+        write!(f, "{}{}", VerdictText(verdict), NumbersText(&count))?;
+        for row in summaries::rows_of(summary) {
+            write!(f, "{}", NumbersText(&row))?;
         }
         Ok(())
     }
