@@ -1,10 +1,10 @@
 -- A number below 100000 has the same digits, whether each is asked for by its power of ten or they are divided off one by one.
 -- Assumes nothing.
 use mathlib.Core.Path.{◌≡◌, refl, ap, ap₂, sym, ◌∙◌}
-use mathlib.Core.Bool.{true, false}
+use mathlib.Core.Bool.{false}
 use mathlib.Core.Logic.{⊎_elim}
-use mathlib.Core.List.{List, [], ◌∷◌, ◌++◌}
-use Prim.Native.Nat.{ℕ, zero, suc, ◌+◌, ◌*◌, ◌/◌, ◌%◌, ◌^◌, ◌≤◌, ◌<◌}
+use mathlib.Core.List.{List, [], ◌∷◌}
+use Prim.Native.Nat.{ℕ, suc, ◌+◌, ◌/◌, ◌%◌, ◌^◌, ◌≤◌, ◌<◌}
 use native.Mathlib.Omega.{arith}
 use lib.Dec.{eqb}
 use borrow.Author.Tests.{lt-ltb, le-ltb, eqb-true}
@@ -57,39 +57,39 @@ three : (n : ℕ) → 100 ≤ n → n < 1000 → decimal n ≡ digits_onto 64 10
 three n l h =
     rw (absent 10000 n (omega (arith, h)), absent 1000 n h, there 100 n l, there 10 n (omega (arith, l)))
     (
-      cell (n / 100) (n / 10 / 10) (omega arith) refl
-      ∙ sym (
-        next 63 n [] (omega (arith, l))
-        ∙ next 62 (n / 10) (digit n ∷ []) (omega (arith, l))
-        ∙ last 61 (n / 10 / 10) (digit (n / 10) ∷ digit n ∷ []) (omega (arith, h))
-      )
+    cell (n / 100) (n / 10 / 10) (omega arith) refl
+    ∙ sym (
+    next 63 n [] (omega (arith, l))
+    ∙ next 62 (n / 10) (digit n ∷ []) (omega (arith, l))
+    ∙ last 61 (n / 10 / 10) (digit (n / 10) ∷ digit n ∷ []) (omega (arith, h))
+    )
     )
 
 four : (n : ℕ) → 1000 ≤ n → n < 10000 → decimal n ≡ digits_onto 64 10 false n []
 four n l h =
     rw (absent 10000 n h, there 1000 n l, there 100 n (omega (arith, l)), there 10 n (omega (arith, l)))
     (
-      cell (n / 1000) (n / 10 / 10 / 10) (omega arith) (cell (n / 100) (n / 10 / 10) (omega arith) refl)
-      ∙ sym (
-        next 63 n [] (omega (arith, l))
-        ∙ next 62 (n / 10) (digit n ∷ []) (omega (arith, l))
-        ∙ next 61 (n / 10 / 10) (digit (n / 10) ∷ digit n ∷ []) (omega (arith, l))
-        ∙ last 60 (n / 10 / 10 / 10) (digit (n / 10 / 10) ∷ digit (n / 10) ∷ digit n ∷ []) (omega (arith, h))
-      )
+    cell (n / 1000) (n / 10 / 10 / 10) (omega arith) (cell (n / 100) (n / 10 / 10) (omega arith) refl)
+    ∙ sym (
+    next 63 n [] (omega (arith, l))
+    ∙ next 62 (n / 10) (digit n ∷ []) (omega (arith, l))
+    ∙ next 61 (n / 10 / 10) (digit (n / 10) ∷ digit n ∷ []) (omega (arith, l))
+    ∙ last 60 (n / 10 / 10 / 10) (digit (n / 10 / 10) ∷ digit (n / 10) ∷ digit n ∷ []) (omega (arith, h))
+    )
     )
 
 five : (n : ℕ) → 10000 ≤ n → n < 100000 → decimal n ≡ digits_onto 64 10 false n []
 five n l h =
     rw (there 10000 n l, there 1000 n (omega (arith, l)), there 100 n (omega (arith, l)), there 10 n (omega (arith, l)))
     (
-      cell (n / 10000) (n / 10 / 10 / 10 / 10) (omega arith) (cell (n / 1000) (n / 10 / 10 / 10) (omega arith) (cell (n / 100) (n / 10 / 10) (omega arith) refl))
-      ∙ sym (
-        next 63 n [] (omega (arith, l))
-        ∙ next 62 (n / 10) (digit n ∷ []) (omega (arith, l))
-        ∙ next 61 (n / 10 / 10) (digit (n / 10) ∷ digit n ∷ []) (omega (arith, l))
-        ∙ next 60 (n / 10 / 10 / 10) (digit (n / 10 / 10) ∷ digit (n / 10) ∷ digit n ∷ []) (omega (arith, l))
-        ∙ last 59 (n / 10 / 10 / 10 / 10) (digit (n / 10 / 10 / 10) ∷ digit (n / 10 / 10) ∷ digit (n / 10) ∷ digit n ∷ []) (omega (arith, h))
-      )
+    cell (n / 10000) (n / 10 / 10 / 10 / 10) (omega arith) (cell (n / 1000) (n / 10 / 10 / 10) (omega arith) (cell (n / 100) (n / 10 / 10) (omega arith) refl))
+    ∙ sym (
+    next 63 n [] (omega (arith, l))
+    ∙ next 62 (n / 10) (digit n ∷ []) (omega (arith, l))
+    ∙ next 61 (n / 10 / 10) (digit (n / 10) ∷ digit n ∷ []) (omega (arith, l))
+    ∙ next 60 (n / 10 / 10 / 10) (digit (n / 10 / 10) ∷ digit (n / 10) ∷ digit n ∷ []) (omega (arith, l))
+    ∙ last 59 (n / 10 / 10 / 10 / 10) (digit (n / 10 / 10 / 10) ∷ digit (n / 10 / 10) ∷ digit (n / 10) ∷ digit n ∷ []) (omega (arith, h))
+    )
     )
 
 below_or : (n m : ℕ) {A : Type 0} → (n < m → A) → (m ≤ n → A) → A

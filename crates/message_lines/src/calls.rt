@@ -34,7 +34,10 @@ pub fn write_message_line(mut fields: Fields<'_>) -> Result<WrittenText, Unreada
     let words = fields.seven_words()?;
     fields.end()?;
     let mut bytes = [FILL; MOST_BYTES];
-    let written = messages::write_message(&mut bytes[..usize::from(count)], Message { header, words });
+    let written = messages::write_message(
+        &mut bytes[..usize::from(count)],
+        Message { header, words },
+    );
     Ok(WrittenText {
         written,
         buffer: Bytes { bytes, count },
