@@ -14,13 +14,9 @@ use std::fmt::{Display, Write as _};
 use std::io::Write;
 use summary_lines::{quick_line, summary_line};
 
-fn tell<W: Write, A: Display + Drop>(
-    answers: &mut Answers<W>,
-    answer: A,
-) -> Result<(), Unreadable> {
-    // Text always finds its place, so this is no error.
+fn tell<W: Write, A: Display + Drop>(answers: &mut Answers<W>, answer: A) {
+    // What is told is ASCII and shorter than the block in which it waits, so this is no error.
     let _ = writeln!(answers, "{answer}");
-    Ok(())
 }
 
 fn text_of(line: &[u8]) -> Result<&str, Unreadable> {
@@ -65,8 +61,9 @@ fn answer_call<W: Write>(
         "readmsg" => tell(answers, read_message_line(fields)?),
         "takemsg" => tell(answers, take_message_line(fields)?),
         "writemsg" => tell(answers, write_message_line(fields)?),
-        _ => Err(Unreadable),
+        _ => return Err(Unreadable),
     }
+    Ok(())
 }
 
 // The one line that a line gets.

@@ -67,7 +67,7 @@ impl<W: Write> Answers<W> {
 }
 
 impl<W: Write> fmt::Write for Answers<W> {
-    // A write that fails here is no end: `take_lost` tells it, and where nothing can be written any more the next one fails too.
+    // A write that fails here is no end: `take_lost` tells of it.
     fn write_str(&mut self, text: &str) -> fmt::Result {
         let bytes = text.as_bytes();
         // No text of an answer is longer than the whole block.
@@ -80,7 +80,7 @@ impl<W: Write> fmt::Write for Answers<W> {
             self.put(bytes);
             return Ok(());
         }
-        // Each write is of a whole block: a pipe has fewer pages than it takes bytes.
+        // Each write is of a whole block: shorter ones would fill a pipe early, which counts pages.
         let (first, rest) = bytes.split_at(room);
         self.put(first);
         self.write_out();

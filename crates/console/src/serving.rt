@@ -6,7 +6,7 @@ use crate::table::Table;
 use std::io;
 use std::io::{Read, Write};
 
-// What the console has between two bytes.
+// What the console has between two blocks of its input.
 #[derive(Drop)]
 struct Console<W: Write> {
     table: Table,

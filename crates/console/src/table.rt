@@ -64,6 +64,7 @@ pub(crate) struct TableText<'a>(&'a Table);
 
 impl fmt::Display for TableText<'_> {
     fn fmt<W: fmt::Write>(&self, f: &mut fmt::Formatter<W>) -> fmt::Result {
+        // `MOST_NUMBERS` is the count and five numbers for each of `MOST_ROWS`.
         let mut numbers = [0; MOST_NUMBERS];
         numbers[0] = self.0.count;
         let rows = self.0.rows();

@@ -13,10 +13,10 @@ pub(crate) struct Bytes {
     pub count: u8,
 }
 
-// A hex digit, small and capital letters alike.
-fn digit(b: u8) -> Result<u8, Unreadable> {
-    let digit = char::from(b).to_digit(16).ok_or(Unreadable)?;
-    Ok(digit as u8)
+// What a hex digit stands for, small and capital letters alike.
+fn hex_value(b: u8) -> Result<u8, Unreadable> {
+    let value = char::from(b).to_digit(16).ok_or(Unreadable)?;
+    Ok(value as u8)
 }
 
 // Hex digits, two for each byte, or `-` for no byte. Half a byte and a byte past the fortieth are left over.
@@ -34,7 +34,7 @@ pub(crate) fn take_bytes(fields: &mut Fields<'_>) -> Result<Bytes, Unreadable>
     }
     let mut bytes = [0; MOST_BYTES];
     for (byte, [high, low]) in bytes.iter_mut().zip(pairs) {
-        *byte = digit(*high)? << 4 | digit(*low)?;
+        *byte = hex_value(*high)? << 4 | hex_value(*low)?;
     }
     Ok(Bytes {
         bytes,

@@ -54,8 +54,8 @@ impl fmt::Display for MessageText {
 }
 
 // The hex digits are capitals.
-fn digit(digit: u8) -> u8 {
-    b"0123456789ABCDEF"[usize::from(digit % 16)]
+fn hex_digit(value: u8) -> u8 {
+    b"0123456789ABCDEF"[usize::from(value % 16)]
 }
 
 // The verdict, the length, and the whole buffer as it is after the call: two digits for each byte, or `-` where there is none.
@@ -77,7 +77,7 @@ impl fmt::Display for WrittenText {
         let mut text = [0; 2 * MOST_BYTES];
         let (pairs, _) = text.as_chunks_mut::<2>();
         for (pair, byte) in pairs.iter_mut().zip(&bytes) {
-            *pair = [digit(byte / 16), digit(byte % 16)];
+            *pair = [hex_digit(byte / 16), hex_digit(byte % 16)];
         }
         let told = text.get(..2 * usize::from(count)).unwrap_or(&text);
         f.write_str(str::from_utf8(told).map_err(|_| fmt::Error)?)
