@@ -14,6 +14,7 @@ use verdicts::Verdict;
 
 // Fixed and variable objects advertise a current, a battery object a power: the figures of a request count the same steps. 24 comes before
 // 25, and there is no 25 where the sink says that it needs more than is offered (bit 26).
+#[tactic(auto, using(crate::proofs::Figures::operating_over, crate::proofs::Figures::maximum_over, crate::proofs::Figures::excused, crate::proofs::Figures::both_within))]
 fn judge_figures(advertised: u16, word: u32) -> Result<(), Verdict>
     ensures { result ≡ passed_by (figure_refusals advertised word) }
 {

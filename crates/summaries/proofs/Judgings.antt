@@ -1,7 +1,7 @@
 -- A decoded request judged by the limits of a row: the cases that the code tells apart.
 -- Assumes nothing.
 use Rattle.std.specs.Prelude.{Ok}
-use mathlib.Core.Path.{◌≡◌, refl, ap, ◌∙◌}
+use mathlib.Core.Path.{◌≡◌, refl}
 use mathlib.Core.Bool.{Bool, true, false, not, and-false}
 use mathlib.Core.List.{List}
 use Prim.Native.Nat.{ℕ, ◌*◌, ◌%◌, ◌<◌, ◌≤◌}
@@ -9,13 +9,12 @@ use native.Mathlib.Omega.{arith}
 use lib.Dec.{leb}
 use borrow.Author.Tests.{le-leb, lt-leb}
 use Rattle.verdicts.specs.Refusals.{first_of, err, passed_by, verdict, success}
-use Rattle.verdicts.proofs.First.{hit, miss, without_last}
+use Rattle.verdicts.proofs.First.{hit, without_last}
 use Rattle.steps.specs.Units.{mv20, mv25, ma50}
 use Rattle.steps.specs.declared.Ma10.{Ma10}
 use Rattle.steps.specs.declared.Ma50.{Ma50}
 use Rattle.steps.specs.declared.Mv20.{Mv20}
 use Rattle.steps.specs.declared.Mv25.{Mv25}
-use Rattle.steps.proofs.RangeLaws.{too_low, too_high, inside}
 use Rattle.requests.specs.Limits.{avs_limit}
 use Rattle.requests.proofs.Limits.{no_maximum}
 use Rattle.requests.proofs.AvsLimits.{whole_100, not_whole_100}
@@ -61,22 +60,26 @@ module _ (ls : List ℕ) where
 
   module _ {A : Type 0} (refused : ℕ → ℕ → A) (answer : A) (mv ma : ℕ) where
     pub under_as : mv < lowest_in ls → first_of refused (range_refusals ls mv ma) answer ≡ refused 22 0
-    under_as h = hit refused answer 22 0 _ (too_low (lowest_in ls) (highest_in ls) mv h)
+    unfolding first_of
+    under_as h = rw (lt-leb (lowest_in ls) mv h)
 
     module _ (from : lowest_in ls ≤ mv) where
       pub beyond_as : highest_in ls < mv → first_of refused (range_refusals ls mv ma) answer ≡ refused 22 0
-      beyond_as h = hit refused answer 22 0 _ (too_high (lowest_in ls) (highest_in ls) mv from h)
+      unfolding first_of
+      beyond_as h = rw (le-leb (lowest_in ls) mv from, lt-leb mv (highest_in ls) h)
 
       module _ (to : mv ≤ highest_in ls) (limit : ℕ) (is : limit ≡ avs_limit mv (below_in ls) (above_in ls)) where
         pub over_as : limit < ma → first_of refused (range_refusals ls mv ma) answer ≡ refused 24 0
+        unfolding first_of
         over_as h =
-            miss refused answer 22 0 _ (inside (lowest_in ls) (highest_in ls) mv from to)
-            ∙ hit refused answer 24 0 _ (ap not (lt-leb ma (avs_limit mv (below_in ls) (above_in ls)) (omega (arith, is, h))))
+            let over = lt-leb ma (avs_limit mv (below_in ls) (above_in ls)) (omega (arith, is, h)) in
+            rw (le-leb (lowest_in ls) mv from, le-leb mv (highest_in ls) to, over)
 
         pub allowed_as : ma ≤ limit → first_of refused (range_refusals ls mv ma) answer ≡ answer
         unfolding first_of
         allowed_as h =
-            rw (inside (lowest_in ls) (highest_in ls) mv from to, le-leb ma (avs_limit mv (below_in ls) (above_in ls)) (omega (arith, is, h)))
+            let allowed = le-leb ma (avs_limit mv (below_in ls) (above_in ls)) (omega (arith, is, h)) in
+            rw (le-leb (lowest_in ls) mv from, le-leb mv (highest_in ls) to, allowed)
 
   -- of the verdict
   module _ (mv ma : ℕ) (from : lowest_in ls ≤ mv) (to : mv ≤ highest_in ls) (limit : ℕ) (is : limit ≡ avs_limit mv (below_in ls) (above_in ls)) where
