@@ -1,12 +1,18 @@
 // What was answered and is not yet written waits in a block of fixed size, since the console has no heap. It is written when it is full, and
 // before the console waits for input.
-ghost use Rattle.std.specs.Prelude.{◌≡◌, ◌+◌, ◌≤◌, ℕ, length};
+ghost use Rattle.std.specs.Prelude.{◌≡◌, ◌+◌, ◌≤◌, ℕ, length, true};
 
 use std::fmt;
 use std::io::Write;
 use std::marker::Model;
 
 const BLOCK: usize = 4096;
+
+// The end of a block cuts no number in two, and no words of a list: each is written or lost as a whole. So much room each has, whatever it takes: five
+// digits, and seven words with a space before each.
+const LONGEST_NUMBER: usize = 5;
+
+const LONGEST_WORDS: usize = 63;
 
 #[derive(Drop)]
 pub(crate) struct Answers<W: Write> {
@@ -66,6 +72,45 @@ impl<W: Write> Answers<W> {
     }
 }
 
+// A number in a text, with the space behind it.
+fn is_number(part: &[u8]) -> bool {
+    let digits = part.strip_suffix(b" ").unwrap_or(part);
+    if digits.is_empty() || LONGEST_NUMBER < digits.len() {
+        return false;
+    }
+    digits.iter().all(|b| b.is_ascii_digit())
+}
+
+// Words are told by themselves, each behind a space: no number has eight digits. The text of no words is the only one that is empty.
+fn is_words(text: &[u8]) -> bool
+    ensures { result ≡ true → length text.now ≤ 63 }
+{
+    if LONGEST_WORDS < text.len() {
+        return false;
+    }
+    match text.get(..9) {
+        Some(first) => first.starts_with(b" ") && !first[1..].contains(&b' '),
+        None => text.is_empty(),
+    }
+}
+
+// How many bytes of a text still go into a block with so much room.
+fn fitting(text: &[u8], room: usize) -> usize
+    ensures { (result ≤ room) × (result ≤ length text.now) }
+{
+    let mut fits: usize = 0;
+    for part in text.split_inclusive(|b| *b == b' ') {
+        if is_number(part) && room.saturating_sub(fits) < LONGEST_NUMBER {
+            break;
+        }
+        fits = fits.saturating_add(part.len());
+        if room < fits {
+            break;
+        }
+    }
+    fits.min(room).min(text.len())
+}
+
 impl<W: Write> fmt::Write for Answers<W> {
     // A write that fails here is no end: `take_lost` tells of it.
     fn write_str(&mut self, text: &str) -> fmt::Result {
@@ -76,13 +121,22 @@ impl<W: Write> fmt::Write for Answers<W> {
             return Err(fmt::Error);
         }
         let room = BLOCK - self.end;
-        if bytes.len() <= room {
+        if bytes.len() + LONGEST_WORDS <= room {
             self.put(bytes);
             return Ok(());
         }
-        // Each write is of a whole block: shorter ones would fill a pipe early, which counts pages.
-        let (first, rest) = bytes.split_at(room);
+        if is_words(bytes) {
+            if room < LONGEST_WORDS {
+                self.write_out();
+            }
+            self.put(bytes);
+            return Ok(());
+        }
+        let (first, rest) = bytes.split_at(fitting(bytes, room));
         self.put(first);
+        if rest.is_empty() {
+            return Ok(());
+        }
         self.write_out();
         self.put(rest);
         Ok(())

@@ -76,10 +76,11 @@ impl fmt::Display for ListingText {
     fn fmt<W: fmt::Write>(&self, f: &mut fmt::Formatter<W>) -> fmt::Result {
         let Listing { verdict, list } = self.0;
         let Words { words, count } = list;
-        let mut text = [0; 80];
+        let mut text = [0; 17];
         let place = put_verdict(&mut text, 0, verdict);
-        let first = put_numbers(&mut text, place, &[u16::from(count)]);
-        let end = put_places(&mut text, first, words, count);
-        f.write_str(told(&text[..end])?)
+        let end = put_numbers(&mut text, place, &[u16::from(count)]);
+        f.write_str(told(&text[..end])?)?;
+        // The words by themselves: the console never cuts them in two.
+        WordsText { words, count }.fmt(f)
     }
 }
