@@ -1,5 +1,5 @@
-// What was answered and is not yet written waits in a block of fixed size, since the console has no heap. It is written when it is full, and
-// before the console waits for input.
+// What was answered and is not yet written waits in a block of fixed size, since the console has no heap. It is written when what comes next might
+// not fit, and before the console waits for input.
 ghost use Rattle.std.specs.Prelude.{◌≡◌, ◌+◌, ◌≤◌, ℕ, length, true};
 
 use std::fmt;
@@ -8,8 +8,8 @@ use std::marker::Model;
 
 const BLOCK: usize = 4096;
 
-// The end of a block cuts no number in two, and no words of a list: each is written or lost as a whole. So much room each has, whatever it takes: five
-// digits, and seven words with a space before each.
+// No block ends within a number or within the words of a list. So much room each has, whatever it takes: five digits, and seven words with a space
+// before each.
 const LONGEST_NUMBER: usize = 5;
 
 const LONGEST_WORDS: usize = 63;
