@@ -15,6 +15,8 @@ import tempfile
 BLOCK = 4096
 # What is never cut in two, with the room that it has whatever it takes: the digits of a number, and the words of a list with their spaces.
 NUMBER, WORDS = 5, 63
+# How long the console may take for a write: it takes a few milliseconds for all.
+SECONDS = 60
 ROWS = "rows" + " 65535 255 500 7 123" * 4 + " 130 0 500 130 60" * 5
 LISTS = ["build 72 72 300 0 1 0", "build 0 72 300 0 1 0", "build 130 130 500 0 0 0", "build 200 15 500 1 1 63"]
 BUFFER = "writemsg 0 4 3 1 2 1 1 40 0001912C 0002D12C 0004B12C C8DC213C 00000000 00000000 00000000"
@@ -66,12 +68,20 @@ def ends(lines, answers, number=NUMBER, words=WORDS):
 def told(command, lines):
     """The writes of a run."""
     here, there = socket.socketpair(socket.AF_UNIX, socket.SOCK_SEQPACKET)
+    here.settimeout(SECONDS)
     with tempfile.TemporaryFile() as file:
         file.write("".join(f"{it}\n" for it in lines).encode())
         file.seek(0)
-        run = subprocess.Popen(command, stdin=file, stdout=there.fileno())
+        try:
+            run = subprocess.Popen(command, stdin=file, stdout=there.fileno())
+        except OSError as error:
+            sys.exit(f"blocks: the console cannot be run: {error}")
     there.close()
-    writes = list(iter(lambda: here.recv(2 * BLOCK), b""))
+    try:
+        writes = list(iter(lambda: here.recv(2 * BLOCK), b""))
+    except TimeoutError:
+        run.kill()
+        sys.exit(f"blocks: the console wrote nothing for {SECONDS} seconds and did not end")
     here.close()
     if run.wait() != 0:
         sys.exit(f"blocks: the console ended with {run.returncode}")
@@ -84,7 +94,7 @@ def main():
         print(__doc__.strip(), file=sys.stdout if command else sys.stderr)
         sys.exit(0 if command else 2)
     runs = writes = 0
-    # Whether the inputs tell the rule from others: one digit less, one byte of the words less, and no rule at all.
+    # Whether the inputs tell the rule from others: room for a digit less, for a byte of the words less, and for one byte of either.
     others = {(NUMBER - 1, WORDS): False, (NUMBER, WORDS - 1): False, (1, WORDS): False, (NUMBER, 1): False}
     for lines in inputs():
         made = told(command, lines)

@@ -2,17 +2,15 @@
 // not fit, and before the console waits for input.
 ghost use Rattle.std.specs.Prelude.{◌≡◌, ◌+◌, ◌≤◌, ℕ, length, true};
 
+use lines::LONGEST_WORDS;
 use std::fmt;
 use std::io::Write;
 use std::marker::Model;
 
 const BLOCK: usize = 4096;
 
-// No block ends within a number or within the words of a list. So much room each has, whatever it takes: five digits, and seven words with a space
-// before each.
+// No block ends within a number or within the words of a list. Each has the room of the longest, whatever it takes: a number that of five digits.
 const LONGEST_NUMBER: usize = 5;
-
-const LONGEST_WORDS: usize = 63;
 
 #[derive(Drop)]
 pub(crate) struct Answers<W: Write> {

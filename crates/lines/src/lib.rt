@@ -8,4 +8,4 @@ mod text;
 
 pub use fields::{Fields, Unreadable};
 pub use printing::{ListingText, MOST_NUMBERS, NumbersText, VerdictText, WordsText};
-pub use text::{LONGEST, put_line};
+pub use text::{LONGEST, LONGEST_WORDS, put_line};

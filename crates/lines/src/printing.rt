@@ -3,7 +3,7 @@ ghost use Rattle.std.specs.Prelude.{◌≡◌, [], ◌++◌, ◌∷◌, Some, If
 ghost use Rattle.lines.specs.Numbers.{numbers_text, verdict_text};
 ghost use Rattle.lines.specs.Text.{places_text};
 
-use crate::text::{PLACES, put_numbers, put_places, put_verdict};
+use crate::text::{LONGEST_WORDS, put_numbers, put_places, put_verdict};
 use lists::{Listing, Words};
 use std::fmt;
 use verdicts::Verdict;
@@ -60,7 +60,7 @@ impl fmt::Display for WordsText {
 
     fn fmt<W: fmt::Write>(&self, f: &mut fmt::Formatter<W>) -> fmt::Result {
         // All in one write: with `{:08X}` for each word a line took up to twice the time.
-        let mut text = [0; PLACES];
+        let mut text = [0; LONGEST_WORDS];
         let end = put_places(&mut text, 0, self.words, self.count);
         f.write_str(told(&text[..end])?)
     }

@@ -114,7 +114,7 @@ fn places_that_count(count: u8) -> usize
 }
 
 // Seven words, with a space before each.
-pub(crate) const PLACES: usize = 63;
+pub const LONGEST_WORDS: usize = 63;
 
 // The words come by themselves: a whole list, copied for the call, would have to wait for the words just written.
 pub(crate) fn put_places(out: &mut [u8], at: usize, words: [u32; 7], count: u8) -> usize
