@@ -1,15 +1,15 @@
 -- A decoded request judged by the limits of a row: the cases that the code tells apart.
 -- Assumes nothing.
 use Rattle.std.specs.Prelude.{Ok}
-use mathlib.Core.Path.{◌≡◌, refl}
+use mathlib.Core.Path.{◌≡◌, refl, ap}
 use mathlib.Core.Bool.{Bool, true, false, not, and-false}
-use mathlib.Core.List.{List}
+use mathlib.Core.List.{List, []}
 use Prim.Native.Nat.{ℕ, ◌*◌, ◌%◌, ◌<◌, ◌≤◌}
 use native.Mathlib.Omega.{arith}
 use lib.Dec.{leb}
 use borrow.Author.Tests.{le-leb, lt-leb}
 use Rattle.verdicts.specs.Refusals.{first_of, err, passed_by, verdict, success}
-use Rattle.verdicts.proofs.First.{hit, without_last}
+use Rattle.verdicts.proofs.First.{hit, miss, without_last}
 use Rattle.steps.specs.Units.{mv20, mv25, ma50}
 use Rattle.steps.specs.declared.Ma10.{Ma10}
 use Rattle.steps.specs.declared.Ma50.{Ma50}
@@ -72,14 +72,14 @@ module _ (ls : List ℕ) where
         pub over_as : limit < ma → first_of refused (range_refusals ls mv ma) answer ≡ refused 24 0
         unfolding first_of
         over_as h =
-            let over = lt-leb ma (avs_limit mv (below_in ls) (above_in ls)) (omega (arith, is, h)) in
-            rw (le-leb (lowest_in ls) mv from, le-leb mv (highest_in ls) to, over)
+            rw (le-leb (lowest_in ls) mv from, le-leb mv (highest_in ls) to)
+            (hit refused answer 24 0 [] (ap not (lt-leb _ _ (omega (arith, is, h)))))
 
         pub allowed_as : ma ≤ limit → first_of refused (range_refusals ls mv ma) answer ≡ answer
         unfolding first_of
         allowed_as h =
-            let allowed = le-leb ma (avs_limit mv (below_in ls) (above_in ls)) (omega (arith, is, h)) in
-            rw (le-leb (lowest_in ls) mv from, le-leb mv (highest_in ls) to, allowed)
+            rw (le-leb (lowest_in ls) mv from, le-leb mv (highest_in ls) to)
+            (miss refused answer 24 0 [] (ap not (le-leb _ _ (omega (arith, is, h)))))
 
   -- of the verdict
   module _ (mv ma : ℕ) (from : lowest_in ls ≤ mv) (to : mv ≤ highest_in ls) (limit : ℕ) (is : limit ≡ avs_limit mv (below_in ls) (above_in ls)) where
